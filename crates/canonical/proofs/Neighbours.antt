@@ -1,22 +1,23 @@
 -- Two values that follow one another, the first a scalar or a pair of two scalars: which is before the other and whether they share a type, by
 -- their cells. Scalars share a type where the cell of the one is within the bounds of the other's type.
-use Prim.Native.Nat.{ℕ, _+_, _*_, _-_, _/_, _≤_, _<_}
+use Prim.Native.Nat.{ℕ, _+_, _*_, _/_, _≤_, _<_, compare, Ordering, Ordering·lt, Ordering·eq, Ordering·gt}
 use mathlib.Core.Bool.{Bool, true, false, _&&_}
 use mathlib.Core.List.{List}
 use mathlib.Core.Logic.{_≢_, _↔_}
-use mathlib.Core.Path.{_≡_, refl, sym, subst, _∙_}
+use mathlib.Core.Path.{_≡_, refl, sym, ap, subst, _∙_}
 use native.Mathlib.Omega.{arith}
 use native.Mathlib.Decide.{ℕ-discrete, decLt}
-use native.Mathlib.Nat.{add-zero}
 use borrow.Author.Tests.{eq-eqb, ne-eqb, lt-ltb, le-ltb, ltb-true}
 use lib.Dec.{T, eqb, ltb}
 use lib.ListN.{length, getD}
-use Rattle.rules.specs.Values.{Value, scalar, pair, set, weight}
+use Rattle.rules.specs.Values.{Value, scalar, pair, set, weight, _then_, order}
+use Rattle.laws.proofs.OrderLaws.{order-eq, order-pair, compare-eq, compare-refl, lt-compare}
 use Rattle.laws.proofs.EndLaws.{T-true, T-and, T-eqb}
 use Rattle.laws.proofs.CellsLaws.{weight-some}
-use Rattle.arena.specs.Code.{cellSize, ValueAt, CellsFit, EndsAt, IsScalar}
-use Rattle.arena.proofs.CodeLaws.{length-code}
-use Rattle.arena.proofs.Standing.{Agree, agree-next, found-less, found-greater, found-equal}
+use Rattle.arena.specs.Code.{cellSize, ValueAt, CellsFit, EndsAt, Compared, orderCode, IsScalar}
+use Rattle.arena.proofs.CodeLaws.{length-code, fits-small}
+use Rattle.arena.proofs.CellOrder.{gt-compare, then-first}
+use Rattle.arena.proofs.EvenLaws.{first-cell-order}
 use Rattle.arena.proofs.ValueParts.{first-cell, scalar-cell, scalar-one, one-cell, left-stands, right-stands}
 use Rattle.fitting.specs.Agree.{SomeTyped, agree, Agreed, Full, atomsAlike}
 use Rattle.fitting.proofs.Sharing.{tags-differ}
@@ -51,23 +52,20 @@ module _ (x y : ℕ) where
   pub alike-low : x < 4 * cellSize → atomsAlike x y ≡ true → y < 4 * cellSize
   alike-low l e = let h = alike-bounds .0 (T-true _ .1 e) in by-tag (λ n m b. y ≤ m → y < 4 * cellSize) (λ t k. omega arith) (λ t k. omega arith) (h .1)
 
--- The order of two values by the first cells that differ, or by the last cells.
-by-cell : (s : List ℕ) (a b end i : ℕ) → EndsAt s a end → i < end - a → Agree s a b i →
-    (getD s (a + i) 0 ≡ getD s (b + i) 0 → end - a ≤ i + 1) → IsBefore s a b (ltb (getD s (a + i) 0) (getD s (b + i) 0))
-by-cell s a b end i ends l g last = go (decLt (getD s (a + i) 0) (getD s (b + i) 0)) (decLt (getD s (b + i) 0) (getD s (a + i) 0))
+-- Two numbers, by their order.
+less-is : (x y : ℕ) → eqb (orderCode (compare x y)) 0 ≡ ltb x y
+less-is x y = go (decLt x y) (decLt y x)
   where
-    go : Dec (getD s (a + i) 0 < getD s (b + i) 0) → Dec (getD s (b + i) 0 < getD s (a + i) 0) →
-        IsBefore s a b (ltb (getD s (a + i) 0) (getD s (b + i) 0))
-    go (yes p) d = rw (lt-ltb _ _ p) (compared-before (found-less s a b end i ends g l p))
-    go (no n) (yes p) = rw (le-ltb (getD s (a + i) 0) (getD s (b + i) 0) (omega arith)) (compared-before (found-greater s a b end i ends g l p))
-    go (no n) (no m) =
-        rw (le-ltb (getD s (a + i) 0) (getD s (b + i) 0) (omega arith))
-        (compared-before (found-equal s a b end (i + 1) ends (agree-next s a b i g (omega arith) (omega arith)) (last (omega arith))))
+    go : Dec (x < y) → Dec (y < x) → eqb (orderCode (compare x y)) 0 ≡ ltb x y
+    go (yes p) d = rw (lt-compare x y p, lt-ltb x y p)
+    go (no n) (yes p) = rw (gt-compare x y p, le-ltb x y (omega arith))
+    go (no n) (no m) = let e : x ≡ y = omega arith in rw (e, compare-refl y, le-ltb y y (omega arith))
 
 -- A scalar is before a value just where its cell is less than that value's first.
 pub cell-before : (s : List ℕ) (a b : ℕ) → getD s a 0 < 4 * cellSize → IsBefore s a b (ltb (getD s a 0) (getD s b 0))
 cell-before s a b low =
-    rw (add-zero a, add-zero b) at (by-cell s a b (a + 1) 0 (one-cell s a low) (omega arith) (λ j m. absurd (omega arith)) (λ e. omega arith))
+    subst (IsBefore s a b) (less-is (getD s a 0) (getD s b 0))
+    (compared-before (λ v w h k p q. ap orderCode (sym (first-cell-order s a b v w h k p q (omega (arith, one-cell s a low v h p))))))
 
 -- The cells of a pair's parts, where the left one is a scalar.
 abbrev leftCell : List ℕ → ℕ → ℕ
@@ -75,6 +73,9 @@ leftCell s a = getD s (a + 1) 0
 
 abbrev rightCell : List ℕ → ℕ → ℕ
 rightCell s a = getD s (a + 2) 0
+
+abbrev partsOrder : List ℕ → ℕ → ℕ → Ordering
+partsOrder s a b = compare (leftCell s a) (leftCell s b) then compare (rightCell s a) (rightCell s b)
 
 -- A pair of two scalars: three cells, one type.
 scalar-is-full : (v : Value) → IsScalar v → Full v
@@ -121,18 +122,44 @@ module _ {s : List ℕ} {a b : ℕ} (p : ScalarPair s a) where
 
   -- and another pair
   module _ (q : getD s b 0 ≡ 4 * cellSize) where
-    pub pairs-before : IsBefore s a b (partsBefore s a b)
-    pairs-before = go (ℕ-discrete (leftCell s a) (leftCell s b))
+    pairs-compared : Compared s a b (orderCode (partsOrder s a b))
+    pairs-compared (scalar x) w h k f g = absurd (omega (arith, first-cell s a (scalar x) h f .0, p .head, scalar-low x))
+    pairs-compared (set vs) w h k f g = absurd (omega (arith, first-cell s a (set vs) h f .0, p .head))
+    pairs-compared (pair x y) (scalar z) h k f g = absurd (omega (arith, first-cell s b (scalar z) k g .0, q, scalar-low z))
+    pairs-compared (pair x y) (set ws) h k f g = absurd (omega (arith, first-cell s b (set ws) k g .0, q))
+    pairs-compared (pair x y) (pair z t) h k f g = ap orderCode (sym whole)
       where
-        one : Agree s a b 1
-        one j l = let z : j ≡ 0 = omega arith in rw (z, add-zero a, add-zero b) (p .head ∙ sym q)
+        one : weight x ≡ 1
+        one = scalar-one x (scalar-cell s (a + 1) x (left-stands s a x y h) (f .0) (p .left)) .0
 
-        go : Dec (leftCell s a ≡ leftCell s b) → IsBefore s a b (partsBefore s a b)
-        go (yes e) =
-            rw (eq-eqb (leftCell s a) (leftCell s b) e)
-            (by-cell s a b (a + 3) 2 (pair-ends p) (omega arith) (agree-next s a b 1 one (omega arith) (omega arith)) (λ f. omega arith))
+        lefts : order x z ≡ compare (leftCell s a) (leftCell s b)
+        lefts = first-cell-order s (a + 1) (b + 1) x z (left-stands s a x y h) (left-stands s b z t k) (f .0) (g .0) one
+
+        go : (o : Ordering) → compare (leftCell s a) (leftCell s b) ≡ o → (o then order y t) ≡ (o then compare (rightCell s a) (rightCell s b))
+        go Ordering·lt e = refl
+        go Ordering·gt e = refl
+        go Ordering·eq e =
+            let same = ap weight (order-eq x z (fits-small x (f .0)) (fits-small z (g .0)) (lefts ∙ e)) in
+            let i : a + 2 ≡ a + 1 + weight x = omega (arith, one) in
+            let j : b + 2 ≡ b + 1 + weight z = omega (arith, one, same) in
+            let u = rw (← i) at (right-stands s a x y h) in
+            let v = rw (← j) at (right-stands s b z t k) in
+            first-cell-order s (a + 2) (b + 2) y t u v (f .1) (g .1) (scalar-one y (scalar-cell s (a + 2) y u (f .1) (p .right)) .0)
+
+        whole : order (pair x y) (pair z t) ≡ partsOrder s a b
+        whole = order-pair x y z t ∙ ap (λ (o : Ordering). o then order y t) lefts ∙ go (compare (leftCell s a) (leftCell s b)) refl
+
+    pub pairs-before : IsBefore s a b (partsBefore s a b)
+    pairs-before = subst (IsBefore s a b) (go (ℕ-discrete (leftCell s a) (leftCell s b))) (compared-before pairs-compared)
+      where
+        go : Dec (leftCell s a ≡ leftCell s b) → eqb (orderCode (partsOrder s a b)) 0 ≡ partsBefore s a b
+        go (yes e) = rw (e, eq-eqb (leftCell s b) (leftCell s b) refl, compare-refl (leftCell s b)) (less-is (rightCell s a) (rightCell s b))
         go (no n) =
-            rw (ne-eqb (leftCell s a) (leftCell s b) n) (by-cell s a b (a + 3) 1 (pair-ends p) (omega arith) one (λ f. absurd (n f)))
+            rw (
+              ne-eqb (leftCell s a) (leftCell s b) n,
+              then-first (compare (leftCell s a) (leftCell s b)) (compare (rightCell s a) (rightCell s b))
+                  (λ e. n (compare-eq (leftCell s a) (leftCell s b) e)),
+            ) (less-is (leftCell s a) (leftCell s b))
 
     pub pairs-alike : Agreed s a b (partsAlike s a b)
     pairs-alike v w h k = go (atomsAlike (leftCell s a) (leftCell s b)) refl

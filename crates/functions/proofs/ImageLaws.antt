@@ -2,13 +2,15 @@
 -- an application (`image-found`). Pairs of two values of one cell each are three cells: the order of the first parts of two neighbours is that of their
 -- cells (`cells-order`), so that the first parts make a row (`pair-row`), and e is one where its cell is in the row (`flat-none`, `flat-found`).
 use Rattle.sets.proofs.Base.{ℕ, _+_, _-_, _%_, _≤_, _<_, Ordering·lt, Ordering·eq, Ordering·gt, suc, _*_, compare, Bool, true, false, List, _≡_, refl, sym, ap, _∙_, subst, arith, isEq, length, getD, inl, inr}
-use Rattle.functions.proofs.Terms.{Value, pair, set, Values, none, _▸_, members, weight, order, same, left, right, ValueAt, orderCode, SomeAt, EndsAt, Compared, SetBelow, SomeValue, ValueBelow, Front, IsPair, AllPairs, SomeRelation, cellSize, AllWeigh, EvenSet, Member, newFirsts, SomePairs, Relation, WithinSet, Applies, PairSought, IsFunction, FlatPairs, SomeFlat, Row}
-use Rattle.laws.proofs.OrderLaws.{then-lt, order-pair, before-order, compare-lt, compare-eq, compare-refl}
+use Rattle.functions.proofs.Terms.{Value, pair, set, Values, none, _▸_, members, weight, order, same, left, right, ValueAt, SomeAt, EndsAt, SameAt, SetBelow, SomeValue, ValueBelow, Front, IsPair, AllPairs, SomeRelation, cellSize, AllWeigh, EvenSet, Member, newFirsts, SomePairs, Relation, WithinSet, Applies, PairSought, IsFunction, FlatPairs, SomeFlat, Row}
+use Rattle.laws.proofs.OrderLaws.{then-lt, order-pair, before-order, compare-lt, compare-eq, compare-refl, same-order}
+use mathlib.Core.Bool.{false≢true}
+use Rattle.laws.proofs.EndLaws.{T-true}
 use Rattle.laws.proofs.SetOrder.{All}
 use Rattle.laws.proofs.Membership.{all-in, In, in-all}
 use Rattle.arena.proofs.CodeLaws.{length-codes}
 use Rattle.arena.proofs.ValueParts.{left-stands, right-stands, scalar-cell, scalar-one}
-use Rattle.arena.proofs.FrontLaws.{front-start, front-value, front-next, code-equal, front-below}
+use Rattle.arena.proofs.FrontLaws.{front-start, front-value, front-next, front-below}
 use Rattle.sets.proofs.KeyLaws.{on-pair}
 use Rattle.functions.proofs.PairLaws.{applied-none, applied-shared, applied-found}
 use Rattle.sets.proofs.SearchLaws.{sought-some, sought-none, key-stands, by-front, no-front}
@@ -103,15 +105,16 @@ module _ {s : List ℕ} {top : ℕ} {vs : Values} {i left : ℕ} (h : Checking (
       pub next-some : SomeAt s (k + 1)
       next-some = checking-two h l (λ _. SomeAt s (k + 1)) λ a b c d ws f. record { value = c; stands = next-at f e g; fits = f .fits .1 .0 .0 }
 
-      module _ {o : ℕ} (compared : Compared s (i + 1) (k + 1) o) where
-        first-order : {a b c d : Value} {ws : Values} → Front s top i left (pair a b ▸ pair c d ▸ ws) → o ≡ orderCode (order a c)
-        first-order {a} {b} {c} f = compared a c (first-at f) (next-at f e g) (f .fits .0 .0) (f .fits .1 .0 .0)
+      module _ {q : Bool} (told : SameAt s (i + 1) (k + 1) q) where
+        same-firsts : {a b c d : Value} {ws : Values} → Front s top i left (pair a b ▸ pair c d ▸ ws) → q ≡ same a c
+        same-firsts {a} {b} {c} f = told a c (first-at f) (next-at f e g) (f .fits .0 .0) (f .fits .1 .0 .0)
 
-        pub walk-shared : o ≡ 1 → false ≡ newFirsts (members vs)
-        walk-shared z = checking-shared h l (λ a b c d ws f _. code-equal (order a c) o (first-order f) z)
+        pub walk-shared : q ≡ true → false ≡ newFirsts (members vs)
+        walk-shared z = checking-shared h l (λ a b c d ws f _. same-order a c (T-true (same a c) .1 (sym (same-firsts f) ∙ z)))
 
-        pub walk-next : (o ≡ 1 → ⊥) → Checking (λ _. Unit {0}) s top vs k (left - 1)
-        walk-next z = checking-next h l k (λ a b c d ws f _. (λ q. z (first-order f ∙ ap orderCode q), pair-ends f e g, tt))
+        pub walk-next : q ≡ false → Checking (λ _. Unit {0}) s top vs k (left - 1)
+        unfolding same
+        walk-next z = checking-next h l k (λ a b c d ws f _. (λ y. false≢true (sym z ∙ same-firsts f ∙ ap isEq y), pair-ends f e g, tt))
 
 pub all-pairs : (vs : Values) → AllPairs vs → All IsPair (members vs)
 all-pairs none p = tt

@@ -19,7 +19,7 @@ fn is_function(s: &[u64], at: usize, n: u64) -> bool
     while left > 1 {
         let right = arena::end_of(s, i + 1);
         let next = arena::end_of(s, right);
-        if arena::compare(s, i + 1, right, next + 1) == arena::EQUAL {
+        if arena::same(s, i + 1, right, next + 1) {
             return false;
         }
         i = next;

@@ -11,7 +11,7 @@ pub use Rattle.rules.specs.Runs.{Given, gives, lacks}
 unfoldable pub use Rattle.rules.specs.Operations.{elementsFrom, holds, leafValue, oneValue, twoValue}
 pub use Rattle.rules.specs.Operations.{Env, setOf}
 unfoldable pub use Rattle.arena.specs.Code.{code, excess}
-pub use Rattle.arena.specs.Code.{AllPairs, CellsFit, Compared, FineSet, Made, Rises, Same, SetBelow, SomeAt, SomeRelation, SomeSet, SomeValue, ValueBelow, cellSize, orderCode}
+pub use Rattle.arena.specs.Code.{AllPairs, CellsFit, FineSet, Made, Rises, Same, SameAt, SetBelow, SomeAt, SomeRelation, SomeSet, SomeValue, ValueBelow, cellSize}
 pub use Rattle.functions.specs.Pairs.{Applies, ImageAt, KnownFunction, newFirsts}
 pub use Rattle.fitting.specs.Tests.{Both, FitOne, FitTwo}
 pub use Rattle.operations.specs.Good.{FunctionSeen, GoodAt, NewFirsts, Sizes, SomeGood}

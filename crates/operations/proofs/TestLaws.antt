@@ -1,8 +1,8 @@
 -- What the tests of kinds 6 to 9 answer: for operands that pass the test's own test it is enough to look at sets, and two numbers are told by their
 -- cells.
-use Rattle.operations.proofs.Base.{ℕ, _+_, _≤_, Ordering·lt, Ordering·eq, Ordering·gt, Bool, true, false, not, _≢_, List, [], _∷_, _≡_, refl, sym, ap, _∙_, subst, arith, le-leb, lt-leb, not-true, not-false, T, leb, leb→le, le→leb, eqb, eqb→eq, eqb-refl, isEq, ℤ, pos, negsuc, length, getD, bool-eq}
+use Rattle.operations.proofs.Base.{ℕ, _+_, _≤_, Bool, true, false, not, _≢_, List, [], _∷_, _≡_, refl, sym, ap, _∙_, subst, arith, le-leb, lt-leb, not-true, not-false, T, leb, leb→le, le→leb, eqb, eqb→eq, eqb-refl, ℤ, pos, negsuc, length, getD, bool-eq}
 use lib.Signed.{leZ}
-use Rattle.operations.proofs.Terms.{whole, Value, int, payload, order, same, Test, equal, member, subset, atMost, test, t̂, P̂, numᵖ, testRule, fits, holds, excess, code, orderCode, SomeSet, SomeValue, Compared, FitTwo, Sizes, GoodAt, Truth, Unlike, Operands, tested, TestDone, NumberCell, NumbersTold, TestOf}
+use Rattle.operations.proofs.Terms.{whole, Value, int, payload, order, same, Test, equal, member, subset, atMost, test, t̂, P̂, numᵖ, testRule, fits, holds, excess, code, SomeSet, SomeValue, SameAt, FitTwo, Sizes, GoodAt, Truth, Unlike, Operands, tested, TestDone, NumberCell, NumbersTold, TestOf}
 use Rattle.laws.proofs.OrderLaws.{same-eq, same-refl}
 use Rattle.arena.proofs.CodeLaws.{all-agree}
 use Rattle.sets.specs.Fronts.{Contains, Includes}
@@ -20,16 +20,12 @@ module _ (j : Test) {s : List ℕ} {a b : ℕ} {r : Bool} (f : FitTwo (testRule 
       ((gs : List ℕ) (mid top : ℕ) (v w : Value) → Sizes gs → GoodAt gs s mid a v → GoodAt gs s top b w → t ≡ holds j v w) → TestDone j s a b (Truth t)
   test-told t e g gs mid top v w small h k = ap Truth (g gs mid top v w small h k) ∙ sym (test-fit j v w (two-fits small h k _ f ∙ not-false r e))
 
--- 6: the number 1 is that of equal values.
-holds-equal : (v w : Value) (r : ℕ) → r ≡ orderCode (order v w) → eqb r 1 ≡ holds equal v w
-unfolding holds same
-holds-equal v w r e = rw e (elim (order v w) as (λ o. eqb (orderCode o) 1 ≡ isEq o) [ Ordering·lt ↦ refl | Ordering·eq ↦ refl | Ordering·gt ↦ refl ])
-
 module _ {s : List ℕ} {a b : ℕ} {r : Bool} where
-  pub equal-told : (q : ℕ) → FitTwo (t̂ ∷ t̂ ∷ []) s a b r → not r ≡ false → Compared s a b q → TestDone equal s a b (Truth (eqb q 1))
+  -- 6
+  pub equal-told : (q : Bool) → FitTwo (t̂ ∷ t̂ ∷ []) s a b r → not r ≡ false → SameAt s a b q → TestDone equal s a b (Truth q)
+  unfolding holds
   equal-told q f e c =
-      test-told equal f (eqb q 1) e
-      (λ gs mid top v w small h k. holds-equal v w q (c v w (h .stands) (k .stands) (good-fits small v (h .good)) (good-fits small w (k .good))))
+      test-told equal f q e (λ gs mid top v w small h k. c v w (h .stands) (k .stands) (good-fits small v (h .good)) (good-fits small w (k .good)))
 
   -- 7
   module _ (f : FitTwo (t̂ ∷ P̂ t̂ ∷ []) s a b r) (e : not r ≡ false) where

@@ -12,7 +12,7 @@ pub fn equal(s: &[u64], a: usize, b: usize) -> Tested
         return Tested::Unlike;
     }
     let end = sets::value_end(s, a);
-    Tested::Truth(arena::compare(s, a, end, b) == arena::EQUAL)
+    Tested::Truth(arena::same(s, a, end, b))
 }
 
 // 7: the first is a member of the second.

@@ -44,12 +44,12 @@ is-function-spec =
     (λ c κs. (first (turn c), next c, c .before .end-of .ensures))
     (λ c. λ top vs f p. let e = c .before .before in
     let t = turn e in
-    walk-shared (t .before .loop .inv top vs f p) (t .loop-test .taken) (e .before .end-of .ensures) (e .end-of2 .ensures) (c .before .compare .ensures)
-    (omega (arith, c .if1 .taken)))
+    walk-shared (t .before .loop .inv top vs f p) (t .loop-test .taken) (e .before .end-of .ensures) (e .end-of2 .ensures) (c .before .same .ensures)
+    (c .if1 .taken))
     (λ c. omega (arith, turn (c .before .before) .loop-test .taken))
     (λ c. omega (arith, turn (c .before .before) .loop-test .taken))
     (λ c. λ top vs f p. let e = c .before .before in
     let t = turn e in
-    walk-next (t .before .loop .inv top vs f p) (t .loop-test .taken) (e .before .end-of .ensures) (e .end-of2 .ensures) (c .before .compare .ensures)
-    (λ z. omega (arith, c .if1 .left)))
+    walk-next (t .before .loop .inv top vs f p) (t .loop-test .taken) (e .before .end-of .ensures) (e .end-of2 .ensures) (c .before .same .ensures)
+    (c .if1 .left))
     (λ c. λ top vs f p. checking-end (c .before .loop .inv top vs f p) (c .loop-test .left)))

@@ -13,4 +13,4 @@ equal-spec =
     (p .first, good-value (p .small) (good-whole (p .small) (p .left)), good-fine (p .small) (p .first) (p .left .good)))
     (λ c κs. let e = c .before in
     let p = e .before .before .before .pre .1 in (good-some (p .small) (p .left), good-some (p .small) (p .right), c .value-end .ensures))
-    (λ c. let e = c .before .before in equal-told _ (e .before .alike .ensures) (e .if1 .left) (c .compare .ensures)))
+    (λ c. let e = c .before .before in equal-told _ (e .before .alike .ensures) (e .if1 .left) (c .same .ensures)))
