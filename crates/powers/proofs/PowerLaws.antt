@@ -71,7 +71,7 @@ module _ {s : List ℕ} {a top : ℕ} {x : Size} {p : ℕ} (size : SizeIs s a x)
   power-members : length (members vs) ≡ x .members
   power-members = members-count vs ∙ sym (size .front top vs h .counted)
 
-  power-is : subsetsOf ≡ map setOf (powers (length (members vs)) (members vs))
+  power-is : subsetsOf ≡ powers (members vs)
   power-is = let f = size .front top vs h in power-rising (members vs) (rises-rising vs (f .rises)) (fit-small vs (f .fits))
 
   -- at most five members: the weight and the number of the subsets, and that the masks give them

@@ -1,8 +1,7 @@
 -- What the proofs use of the specifications: values and the operations of the rules, the arena, and this crate's.
 unfoldable pub use Rattle.rules.specs.Operations.{rising, subsets}
 pub use Rattle.rules.specs.Operations.{keptValue, setOf}
-unfoldable pub use Rattle.rules.specs.Values.{order}
-pub use Rattle.rules.specs.Values.{Value, Values, _then_, _▸_, count, keys, members, none, set, values, weight, weights}
+pub use Rattle.rules.specs.Values.{Value, Values, _then_, _▸_, count, members, none, order, set, values, weight, weights}
 unfoldable pub use Rattle.arena.specs.Code.{code, codes}
 pub use Rattle.arena.specs.Code.{Copied, EndsAt, Front, Made, Same, SetBelow}
 pub use Rattle.powers.specs.declared.Out.{Out}

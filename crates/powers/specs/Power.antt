@@ -14,10 +14,10 @@ use Rattle.powers.specs.declared.Out.{Out}
 abbrev pub Powers : List ℕ → ℕ → ℕ → List ℕ → ℕ → Type 0
 Powers s a top s′ r = (vs : Values) → SetBelow s top a vs → Made top s s′ (setOf (rising (map setOf (subsets (members vs))))) r
 
--- Bit i stands for member i: fewer bits first, then by the first members that differ.
+-- Bit i stands for member i: fewer bits first, then by the greatest members that differ.
 abbrev pub masks : List ℕ
 masks =
-    0 ∷ 1 ∷ 2 ∷ 4 ∷ 8 ∷ 16 ∷ 3 ∷ 5 ∷ 9 ∷ 17 ∷ 6 ∷ 10 ∷ 18 ∷ 12 ∷ 20 ∷ 24 ∷ 7 ∷ 11 ∷ 19 ∷ 13 ∷ 21 ∷ 25 ∷ 14 ∷ 22 ∷ 26 ∷ 28 ∷ 15 ∷ 23 ∷ 27 ∷ 29 ∷ 30 ∷ 31 ∷ []
+    0 ∷ 1 ∷ 2 ∷ 4 ∷ 8 ∷ 16 ∷ 3 ∷ 5 ∷ 6 ∷ 9 ∷ 10 ∷ 12 ∷ 17 ∷ 18 ∷ 20 ∷ 24 ∷ 7 ∷ 11 ∷ 13 ∷ 14 ∷ 19 ∷ 21 ∷ 22 ∷ 25 ∷ 26 ∷ 28 ∷ 15 ∷ 23 ∷ 27 ∷ 29 ∷ 30 ∷ 31 ∷ []
 
 -- r is the number of subsets of n members; 64 for more than five.
 abbrev pub subsetCounts : List ℕ

@@ -70,7 +70,7 @@ fn subset(s: &mut [u64], at: &[usize; 6], n: usize, mask: u64, p: u64, to: usize
     o.to
 }
 
-// Subsets of at most five members as bits: fewer members first, then by the first members that differ.
+// Subsets of at most five members as bits: fewer members first, then by the greatest members that differ, as the masks do as numbers.
 const MASKS: [u64; 32] = [
     0,
     1,
@@ -80,22 +80,22 @@ const MASKS: [u64; 32] = [
     16,
     3,
     5,
-    9,
-    17,
     6,
+    9,
     10,
-    18,
     12,
+    17,
+    18,
     20,
     24,
     7,
     11,
-    19,
     13,
-    21,
-    25,
     14,
+    19,
+    21,
     22,
+    25,
     26,
     28,
     15,
