@@ -79,8 +79,8 @@ enum falgrumi_refusal {
     FALGRUMI_REFUSED_AMBIGUITY = 12,
     /* The type weighs more than 64, which is more than a row holds. [identifiers first, then nodes] */
     FALGRUMI_REFUSED_HEAVY_TYPE = 13,
-    /* The identifier's value is malformed, cut short, over 256 cells, a set of mixed types or an element that is not there; or
-     * bytes are left behind the last value. [identifier; their number for bytes left] */
+    /* The identifier's value is malformed, cut short, over 256 cells, a set whose members do not rise or are of mixed types, or
+     * an element that is not there; or bytes are left behind the last value. [identifier; their number for bytes left] */
     FALGRUMI_REFUSED_VALUES = 14,
     /* The values of the node's operands have no types that its rule allows. [node] */
     FALGRUMI_REFUSED_OPERANDS = 15,
@@ -116,7 +116,9 @@ uint8_t falgrumi_check(const uint8_t *table, size_t table_length, uint8_t *sheet
  *   values, values_length  one value for each free identifier, in the order of their numbers, and nothing behind; read only. A
  *                          cell is 4 bytes payload, least byte first, 1 byte tag, 3 zero bytes. Tags: 1 integer (signed), 2
  *                          truth (0 or 1), 3 element k of given set g (payload 256 g + k), 4 pair (payload 0, then both
- *                          parts), 5 set (payload the number of members, then the members, rising, none twice).
+ *                          parts), 5 set (payload the number of members, then the members, rising, none twice). Values rise
+ *                          by tag, then payload, then a pair's parts from left to right, a set's members from the greatest
+ *                          down: {2,3} precedes {1,4}.
  *   budget                 the most visits of nodes that may be made; 0 is enough for a table without nodes.
  *   truth                  written at every return: 1 for true, 0 for false, 0 for a refusal.
  *   place                  written at every return: the refusal's place, 0 where the answer is 0.

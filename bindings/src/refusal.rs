@@ -42,8 +42,9 @@ const SENTENCES: [&str; 19] = [
     "the types clash: the rules of the nodes up to this one do not hold together",
     "the type is ambiguous: the rules leave several",
     "the type weighs more than 64, which is more than a row holds",
-    "the identifier's value is malformed, cut short, over 256 cells, a set of mixed types or an \
-     element that is not there, or bytes are left behind the last value",
+    "the identifier's value is malformed, cut short, over 256 cells, a set whose members do not \
+     rise or are of mixed types, or an element that is not there, or bytes are left behind the last \
+     value",
     "the operands' values have no types that the node's rule allows",
     "choice has an empty set, or the application has a relation that is no function (two of its \
      pairs share a first part) or an argument outside its domain",
