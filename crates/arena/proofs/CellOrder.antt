@@ -3,17 +3,13 @@
 -- cells agree are the same.
 use Rattle.arena.proofs.Base.{ℕ, _+_, _-_, _/_, _%_, _≤_, _<_, compare, Ordering, Ordering·lt, Ordering·eq, Ordering·gt, Bool, true, false, cond, List, [], _∷_, _++_, _≡_, refl, sym, ap, _∙_, subst, arith, ℕ-discrete, decLt, T, eqb, ℤ, pos, getD, lt-ltb, le-ltb}
 use Rattle.rules.specs.Values.{Value, scalar, pair, set, Values, none, _▸_, scalarTag, count, weight, compareℤ, _then_, lex, key, keys, order, same}
-use Rattle.laws.proofs.OrderLaws.{flip, then-end, key-delimited, keys-delimited, compare-refl, compare-eq, lt-compare, compare-flip, same-refl, same-eq}
+use Rattle.laws.proofs.OrderLaws.{then-end, then-first, key-delimited, keys-delimited, compare-refl, compare-eq, lt-compare, gt-compare, same-refl, same-eq}
 use Rattle.laws.proofs.EndLaws.{T-true}
 use Rattle.arena.specs.Code.{cellSize, scalarLow, code, CellsFit, EndsAt, SameAt, rowOrder}
 use Rattle.arena.proofs.CodeLaws.{unexcess, payloadOf, cell-parts, scalar-small, scalar-payload, fits-small, length-code, all-agree}
 use Rattle.arena.proofs.Standing.{ownCell, inner, Agree, cells-agree}
 
--- Comparing numbers.
-pub gt-compare : (m n : ℕ) → n < m → compare m n ≡ Ordering·gt
-gt-compare m n h = compare-flip n m ∙ ap flip (lt-compare n m h)
-
--- two pairs of numbers in the same relation compare alike
+-- Two pairs of numbers in the same relation compare alike.
 compare-same : (a b l m : ℕ) → (a < b → l < m) → (b < a → m < l) → (a ≡ b → l ≡ m) → compare a b ≡ compare l m
 compare-same a b l m p q r = go (decLt a b) (decLt b a)
   where
@@ -57,12 +53,6 @@ cell-order c d o = go (decLt (c / cellSize) (d / cellSize)) (decLt (d / cellSize
         let e : c / cellSize ≡ d / cellSize = omega arith in
         rw (e, compare-refl (d / cellSize), payload-order (d / cellSize) (c % cellSize) (d % cellSize))
         (ap (λ (x : Ordering). x then o) (compare-same c d (c % cellSize) (d % cellSize) (λ h. omega arith) (λ h. omega arith) (λ h. omega arith)))
-
--- The first difference decides.
-pub then-first : (o p : Ordering) → (o ≡ Ordering·eq → ⊥) → (o then p) ≡ o
-then-first Ordering·lt p n = refl
-then-first Ordering·eq p n = absurd (n refl)
-then-first Ordering·gt p n = refl
 
 -- What decides behind a value's own cell.
 abbrev innerKey : Value → List ℤ

@@ -2,23 +2,23 @@
 -- difference decides (`Undecided`). The next values, x and y, decide where their own cells differ, and are opened where these agree (`pass`).
 use Rattle.arena.proofs.Base.{ℕ, _+_, _*_, _-_, _≤_, _<_, compare, Ordering, Ordering·lt, Ordering·eq, Ordering·gt, false, List, append-nil, _≡_, refl, sym, ap, _∙_, subst, arith, length, getD}
 use Rattle.rules.specs.Values.{Value, scalar, pair, set, Values, none, _▸_, count, weight, weights, _then_, order}
-use Rattle.laws.proofs.OrderLaws.{then-end, compare-refl, lt-compare}
+use Rattle.laws.proofs.OrderLaws.{then-end, then-first, compare-refl, lt-compare, gt-compare}
 use Rattle.laws.proofs.CellsLaws.{weight-some}
 use Rattle.arena.specs.Code.{cellSize, code, ValueAt, CellsFit, orderCode, partsOf, rowOrder, RowAt}
 use Rattle.arena.proofs.Standing.{ownCell, inner, _before_, weight-inner, weights-before, stands-own, parts-stand}
 use Rattle.arena.proofs.ValueParts.{some-inside}
-use Rattle.arena.proofs.CellOrder.{own-apart, own-same, isSet, gt-compare, then-first}
+use Rattle.arena.proofs.CellOrder.{own-apart, own-same, isSet}
 use Rattle.arena.proofs.RowOrder.{row-value, row-some, row-open, row-before}
 
 -- Of v and w, whose cells agree up to i, vs and ws are left.
-pub record Rest (s : List ℕ) (a b i : ℕ) (v w : Value) (n : ℕ) (vs ws : Values) : Type 0 where
+pub record ValuesLeft (s : List ℕ) (a b i : ℕ) (v w : Value) (n : ℕ) (vs ws : Values) : Type 0 where
   pub first : RowAt s (a + i) n vs
   pub second : RowAt s (b + i) n ws
   pub ends : i + weights vs ≡ weight v
   pub decides : rowOrder false vs ws ≡ order v w
 
 abbrev pub Undecided : List ℕ → ℕ → ℕ → ℕ → Value → Value → Type 0
-Undecided s a b i v w = (n : ℕ) × (vs : Values) × (ws : Values) × Rest s a b i v w n vs ws
+Undecided s a b i v w = (n : ℕ) × (vs : Values) × (ws : Values) × ValuesLeft s a b i v w n vs ws
 
 -- A row, its place told in another way.
 moved : {s : List ℕ} {j n : ℕ} {vs : Values} → RowAt s j n vs → (k : ℕ) → k ≡ j → RowAt s k n vs
@@ -52,12 +52,12 @@ other-inner (set (u ▸ us)) y l = absurd (omega arith)
 module _ (s : List ℕ) (a b i : ℕ) (v w : Value) where
   -- Where v has not ended, both have a next value.
   at-next : Undecided s a b i v w → i < weight v → (Q : Type 0) →
-      ((n : ℕ) (x y : Value) (vs ws : Values) → Rest s a b i v w n (x ▸ vs) (y ▸ ws) → Q) → Q
+      ((n : ℕ) (x y : Value) (vs ws : Values) → ValuesLeft s a b i v w n (x ▸ vs) (y ▸ ws) → Q) → Q
   at-next (n, none, ws, h) l Q k = absurd (omega (arith, h .ends))
   at-next (n, x ▸ vs, none, h) l Q k = absurd (omega (arith, h .first .counted, h .second .counted))
   at-next (n, x ▸ vs, y ▸ ws, h) l Q k = k n x y vs ws h
 
-  module _ {n : ℕ} {x y : Value} {vs ws : Values} (h : Rest s a b i v w n (x ▸ vs) (y ▸ ws)) where
+  module _ {n : ℕ} {x y : Value} {vs ws : Values} (h : ValuesLeft s a b i v w n (x ▸ vs) (y ▸ ws)) where
     first-stands : ValueAt s (a + i) x
     first-stands = row-value s (a + i) n x vs (h .first)
 

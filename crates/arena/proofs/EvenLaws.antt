@@ -4,12 +4,12 @@ use Rattle.arena.proofs.Base.{ℕ, zero, suc, _+_, _*_, _-_, _≤_, _<_
 use Rattle.rules.specs.Types.{Ty, atom, POW, _⊗_}
 use Rattle.rules.specs.Values.{Value, scalar, pair, set, Values, none, _▸_, count, weight, weights, order}
 use Rattle.rules.specs.Fits.{HasType, HaveType, typed}
-use Rattle.laws.proofs.OrderLaws.{flip, order-flip, compare-flip, compare-refl, lt-compare}
+use Rattle.laws.proofs.OrderLaws.{flip, order-flip, compare-flip, compare-refl, lt-compare, gt-compare}
 use Rattle.laws.proofs.CellsLaws.{count-weights}
 use Rattle.laws.proofs.FitsLaws.{typed-right}
 use Rattle.arena.specs.Code.{ValueAt, CellsFit, orderCode, EndsAt, Compared, IsScalar, Flat, AllWeigh, EvenSet, Front}
 use Rattle.arena.proofs.Standing.{inner, weight-inner, stands-own}
-use Rattle.arena.proofs.CellOrder.{gt-compare, leaf-order}
+use Rattle.arena.proofs.CellOrder.{leaf-order}
 use Rattle.arena.proofs.FrontLaws.{front-next}
 
 -- Values of one type.

@@ -2,7 +2,7 @@
 -- That order and the order of those that are left give the order of the whole (`RowsLeft`).
 use Rattle.arena.proofs.Base.{ℕ, _+_, _*_, _-_, _≤_, _<_, compare, Ordering, Ordering·eq, Bool, true, false, List, _++_, _≡_, refl, sym, ap, _∙_, subst, arith, add-zero, ltb, length, getD, lt-ltb, le-ltb}
 use Rattle.rules.specs.Values.{Value, scalar, pair, set, Values, none, _▸_, count, weight, weights, _then_, order}
-use Rattle.laws.proofs.OrderLaws.{then-end, then-assoc}
+use Rattle.laws.proofs.OrderLaws.{then-end, then-first, then-assoc}
 use Rattle.arena.specs.Code.{cellSize, code, codes, ValueAt, CellsFit, orderCode, SomeAt, EndsAt, partsOf, thenNext, rowOrder, ThenNext, RowAt, SomeRow, SomeLeft, RowsLeft, RowsBegun, ValuesCompared, RowsCompared}
 use Rattle.arena.specs.declared.Rows.{Rows}
 use Rattle.arena.proofs.CodeLaws.{length-code, length-codes, scalar-small}
@@ -11,7 +11,7 @@ use Rattle.arena.proofs.Standing.{ownCell, inner, _before_, code-inner,
 use Rattle.arena.proofs.ValueParts.{some-inside, one-cell}
 use Rattle.arena.proofs.FrontLaws.{code-equal}
 use Rattle.arena.proofs.EvenLaws.{cell-compared}
-use Rattle.arena.proofs.CellOrder.{own-apart, own-same, isSet, then-first}
+use Rattle.arena.proofs.CellOrder.{own-apart, own-same, isSet}
 
 -- Orders one after the other: no difference adds nothing, and how they are grouped does not matter.
 thenNext-eq : (last : Bool) (o : Ordering) → thenNext last Ordering·eq o ≡ o
@@ -75,6 +75,7 @@ inner-row s at v h f = record {
   counted = parts-stand s at v h f;
 }
 
+-- Rows of which nothing has been compared.
 pub left-start : (s : List ℕ) (a b n : ℕ) (last : Bool) (vs ws : Values) → RowAt s a n vs → RowAt s b n ws →
     SomeLeft s a b n last 1 (rowOrder last vs ws) (a + weights vs) (b + weights ws)
 left-start s a b n last vs ws h k = (

@@ -102,15 +102,15 @@ abbrev pub thenNext : Bool → Ordering → Ordering → Ordering
 thenNext false o p = o then p
 thenNext true o p = p then o
 
+-- So as numbers.
+abbrev pub ThenNext : Bool → ℕ → ℕ → ℕ → Type 0
+ThenNext last m n r = (o p : Ordering) → m ≡ orderCode o → n ≡ orderCode p → r ≡ orderCode (thenNext last o p)
+
 -- The order of two rows of as many values, from left to right: that of the first that differ, or (last) of the last.
 unfoldable pub rowOrder : Bool → Values → Values → Ordering
 unfolding order
 rowOrder last none ws = Ordering·eq
 rowOrder last (v ▸ vs) ws = elim ws [ none ↦ Ordering·eq | w ▸ ws′ ↦ (let o = rowOrder last vs ws′ in thenNext last (order v w) o) ]
-
--- So as numbers.
-abbrev pub ThenNext : Bool → ℕ → ℕ → ℕ → Type 0
-ThenNext last m n r = (o p : Ordering) → m ≡ orderCode o → n ≡ orderCode p → r ≡ orderCode (thenNext last o p)
 
 -- n values that fit stand one behind the other from `at` on.
 pub record RowAt (s : List ℕ) (at n : ℕ) (vs : Values) : Type 0 where

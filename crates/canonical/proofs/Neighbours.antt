@@ -11,12 +11,11 @@ use borrow.Author.Tests.{eq-eqb, ne-eqb, lt-ltb, le-ltb, ltb-true}
 use lib.Dec.{T, eqb, ltb}
 use lib.ListN.{length, getD}
 use Rattle.rules.specs.Values.{Value, scalar, pair, set, weight, _then_, order}
-use Rattle.laws.proofs.OrderLaws.{order-eq, order-pair, compare-eq, compare-refl, lt-compare}
+use Rattle.laws.proofs.OrderLaws.{order-eq, order-pair, then-first, compare-eq, compare-refl, lt-compare, gt-compare}
 use Rattle.laws.proofs.EndLaws.{T-true, T-and, T-eqb}
 use Rattle.laws.proofs.CellsLaws.{weight-some}
 use Rattle.arena.specs.Code.{cellSize, ValueAt, CellsFit, EndsAt, Compared, orderCode, IsScalar}
 use Rattle.arena.proofs.CodeLaws.{length-code, fits-small}
-use Rattle.arena.proofs.CellOrder.{gt-compare, then-first}
 use Rattle.arena.proofs.EvenLaws.{first-cell-order}
 use Rattle.arena.proofs.ValueParts.{first-cell, scalar-cell, scalar-one, one-cell, left-stands, right-stands}
 use Rattle.fitting.specs.Agree.{SomeTyped, agree, Agreed, Full, atomsAlike}

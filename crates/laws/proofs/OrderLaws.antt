@@ -42,6 +42,12 @@ then-end Ordering·lt = refl
 then-end Ordering·eq = refl
 then-end Ordering·gt = refl
 
+-- a difference in the first part decides
+pub then-first : (o p : Ordering) → (o ≡ Ordering·eq → ⊥) → (o then p) ≡ o
+then-first Ordering·lt p n = refl
+then-first Ordering·eq p n = absurd (n refl)
+then-first Ordering·gt p n = refl
+
 -- how parts are grouped does not matter
 pub then-assoc : (o p q : Ordering) → ((o then p) then q) ≡ (o then p then q)
 then-assoc Ordering·lt p q = refl
@@ -80,6 +86,9 @@ lt-compare zero zero h = absurd (omega arith)
 lt-compare zero (suc n) h = compare·zero-suc n
 lt-compare (suc m) zero h = absurd (omega arith)
 lt-compare (suc m) (suc n) h = compare·suc-suc m n ∙ lt-compare m n (le-of-suc-le-suc h)
+
+pub gt-compare : (m n : ℕ) → n < m → compare m n ≡ Ordering·gt
+gt-compare m n h = compare-flip n m ∙ ap flip (lt-compare n m h)
 
 -- The same for integers: a linear order.
 

@@ -1,8 +1,7 @@
 -- `cell_order`: the three cases of two numbers.
 use Rattle.arena.proofs.Base.{Ordering·eq, compare, _≡_, sym, ap, arith}
-use Rattle.laws.proofs.OrderLaws.{lt-compare, compare-refl}
+use Rattle.laws.proofs.OrderLaws.{lt-compare, gt-compare, compare-refl}
 use Rattle.arena.specs.Code.{orderCode}
-use Rattle.arena.proofs.CellOrder.{gt-compare}
 use Rattle.arena.proofs.cell_order.Statement.{statement}
 use Rattle.arena.proofs.cell_order.Tie as tie
 
