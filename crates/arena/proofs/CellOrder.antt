@@ -1,7 +1,7 @@
 -- The order of two values by their cells. A value is ordered by its own cell and then by what stands behind it: the parts of a pair as a row
 -- of which the first difference decides, the members of a set as one of which the last decides (`own-apart`, `own-same`). Values whose
 -- cells agree are the same.
-use Rattle.arena.proofs.Base.{ℕ, _+_, _-_, _/_, _%_, _≤_, _<_, compare, Ordering, Ordering·lt, Ordering·eq, Ordering·gt, Bool, true, false, cond, List, [], _∷_, _++_, _≡_, refl, sym, ap, _∙_, subst, arith, ℕ-discrete, decLt, T, eqb, ℤ, pos, getD, lt-ltb, le-ltb}
+use Rattle.arena.proofs.Base.{ℕ, _+_, _-_, _/_, _%_, _≤_, _<_, compare, Ordering, Ordering·eq, Bool, true, false, cond, List, [], _∷_, _++_, _≡_, refl, sym, ap, _∙_, subst, arith, ℕ-discrete, decLt, T, eqb, ℤ, pos, getD, lt-ltb, le-ltb}
 use Rattle.rules.specs.Values.{Value, scalar, pair, set, Values, none, _▸_, scalarTag, count, weight, compareℤ, _then_, lex, key, keys, order, same}
 use Rattle.laws.proofs.OrderLaws.{then-end, then-first, key-delimited, keys-delimited, compare-refl, compare-eq, lt-compare, gt-compare, same-refl, same-eq}
 use Rattle.laws.proofs.EndLaws.{T-true}
@@ -39,10 +39,10 @@ payload-order t l m = go (eqb t 1)
     go false = refl
 
 -- Cells compare by tag and then by payload.
-cell-order : (c d : ℕ) (o : Ordering) →
+tag-payload-order : (c d : ℕ) (o : Ordering) →
     (compare c d then o) ≡ (compare (c / cellSize) (d / cellSize) then compareℤ (payloadOf (c / cellSize) (c % cellSize))
     (payloadOf (d / cellSize) (d % cellSize)) then o)
-cell-order c d o = go (decLt (c / cellSize) (d / cellSize)) (decLt (d / cellSize) (c / cellSize))
+tag-payload-order c d o = go (decLt (c / cellSize) (d / cellSize)) (decLt (d / cellSize) (c / cellSize))
   where
     go : Dec (c / cellSize < d / cellSize) → Dec (d / cellSize < c / cellSize) →
         (compare c d then o) ≡ (compare (c / cellSize) (d / cellSize) then compareℤ (payloadOf (c / cellSize) (c % cellSize))
@@ -70,7 +70,7 @@ own-key (set s) h = let p = cell-parts 5 (count s) (h .0) in rw (p .0, p .1)
 
 own-order : (v w : Value) → CellsFit v → CellsFit w → order v w ≡ (compare (ownCell v) (ownCell w) then lex (innerKey v) (innerKey w))
 unfolding order lex
-own-order v w h k = rw (own-key v h, own-key w k) (sym (cell-order (ownCell v) (ownCell w) (lex (innerKey v) (innerKey w))))
+own-order v w h k = rw (own-key v h, own-key w k) (sym (tag-payload-order (ownCell v) (ownCell w) (lex (innerKey v) (innerKey w))))
 
 -- Own cells that differ decide.
 pub own-apart : (v w : Value) → CellsFit v → CellsFit w → (ownCell v ≡ ownCell w → ⊥) → order v w ≡ compare (ownCell v) (ownCell w)

@@ -1,14 +1,14 @@
 -- `compare`: the cells of two values agree up to i, none of them that of a set with members; what is left of both are rows of which the first
 -- difference decides (`Undecided`). The next values, x and y, decide where their own cells differ, and are opened where these agree (`pass`).
-use Rattle.arena.proofs.Base.{ℕ, _+_, _*_, _-_, _≤_, _<_, compare, Ordering, Ordering·lt, Ordering·eq, Ordering·gt, false, List, append-nil, _≡_, refl, sym, ap, _∙_, subst, arith, length, getD}
+use Rattle.arena.proofs.Base.{ℕ, _+_, _*_, _-_, _≤_, _<_, compare, Ordering, Ordering·lt, Ordering·eq, Ordering·gt, false, List, _≡_, refl, sym, ap, _∙_, subst, arith, length, getD}
 use Rattle.rules.specs.Values.{Value, scalar, pair, set, Values, none, _▸_, count, weight, weights, _then_, order}
 use Rattle.laws.proofs.OrderLaws.{then-end, then-first, compare-refl, lt-compare, gt-compare}
 use Rattle.laws.proofs.CellsLaws.{weight-some}
-use Rattle.arena.specs.Code.{cellSize, code, ValueAt, CellsFit, orderCode, partsOf, rowOrder, RowAt}
-use Rattle.arena.proofs.Standing.{ownCell, inner, _before_, weight-inner, weights-before, stands-own, parts-stand}
+use Rattle.arena.specs.Code.{cellSize, ValueAt, CellsFit, orderCode, partsOf, rowOrder, RowAt}
+use Rattle.arena.proofs.Standing.{ownCell, inner, _before_, weight-inner, weights-before, stands-own, parts-stand, first-stands, row-one, row-open}
 use Rattle.arena.proofs.ValueParts.{some-inside}
 use Rattle.arena.proofs.CellOrder.{own-apart, own-same, isSet}
-use Rattle.arena.proofs.RowOrder.{row-value, row-some, row-open, row-before}
+use Rattle.arena.proofs.RowOrder.{row-some, row-before}
 
 -- Of v and w, whose cells agree up to i, vs and ws are left.
 pub record ValuesLeft (s : List ℕ) (a b i : ℕ) (v w : Value) (n : ℕ) (vs ws : Values) : Type 0 where
@@ -25,21 +25,18 @@ moved : {s : List ℕ} {j n : ℕ} {vs : Values} → RowAt s j n vs → (k : ℕ
 moved {s} {n = n} {vs} h k e = subst (λ (i : ℕ). RowAt s i n vs) (sym e) h
 
 pub undecided-start : (s : List ℕ) (a b : ℕ) (v w : Value) → ValueAt s a v → ValueAt s b w → CellsFit v → CellsFit w → Undecided s a b 0 v w
-unfolding rowOrder code
+unfolding rowOrder
 undecided-start s a b v w h k p q = (
   1,
   v ▸ none,
   w ▸ none,
   record {
-    first = moved (row a v h p) (a + 0) (omega arith);
-    second = moved (row b w k q) (b + 0) (omega arith);
+    first = moved (row-one s a v h p) (a + 0) (omega arith);
+    second = moved (row-one s b w k q) (b + 0) (omega arith);
     ends = omega arith;
     decides = then-end (order v w);
   },
 )
-  where
-    row : (at : ℕ) (u : Value) → ValueAt s at u → CellsFit u → RowAt s at 1 (u ▸ none)
-    row at u h f = record { stands = rw (append-nil (code u)) h; fit = (f, tt); counted = refl }
 
 -- Behind an own cell that is not of a set with members the first difference decides.
 other-inner : (x y : Value) → ownCell x ≤ 5 * cellSize → rowOrder (isSet x) (inner x) (inner y) ≡ rowOrder false (inner x) (inner y)
@@ -58,17 +55,17 @@ module _ (s : List ℕ) (a b i : ℕ) (v w : Value) where
   at-next (n, x ▸ vs, y ▸ ws, h) l Q k = k n x y vs ws h
 
   module _ {n : ℕ} {x y : Value} {vs ws : Values} (h : ValuesLeft s a b i v w n (x ▸ vs) (y ▸ ws)) where
-    first-stands : ValueAt s (a + i) x
-    first-stands = row-value s (a + i) n x vs (h .first)
+    first-here : ValueAt s (a + i) x
+    first-here = first-stands s (a + i) x vs (h .first .stands)
 
-    second-stands : ValueAt s (b + i) y
-    second-stands = row-value s (b + i) n y ws (h .second)
+    second-here : ValueAt s (b + i) y
+    second-here = first-stands s (b + i) y ws (h .second .stands)
 
     first-own : getD s (a + i) 0 ≡ ownCell x
-    first-own = stands-own s (a + i) x first-stands
+    first-own = stands-own s (a + i) x first-here
 
     second-own : getD s (b + i) 0 ≡ ownCell y
-    second-own = stands-own s (b + i) y second-stands
+    second-own = stands-own s (b + i) y second-here
 
     -- a difference between x and y decides
     whole : (order x y then rowOrder false vs ws) ≡ order v w
@@ -93,8 +90,8 @@ module _ (s : List ℕ) (a b i : ℕ) (v w : Value) where
       -- not those of sets with members
       pass : getD s (a + i) 0 ≤ 5 * cellSize → Undecided s a b (i + 1) v w
       pass l =
-          let m = parts-stand s (a + i) x first-stands (h .first .fit .0) in
-          let k = parts-stand s (b + i) y second-stands (h .second .fit .0) in
+          let m = parts-stand s (a + i) x first-here (h .first .fit .0) in
+          let k = parts-stand s (b + i) y second-here (h .second .fit .0) in
           let c : count (inner x) ≡ count (inner y) = m ∙ ap partsOf e ∙ sym k in
           let o = inner-order ∙ other-inner x y (rw first-own at l) in (
             n - 1 + partsOf (getD s (a + i) 0),

@@ -5,7 +5,7 @@ use Rattle.laws.proofs.OrderLaws.{Small}
 use Rattle.laws.proofs.SetOrder.{All, Rising, rising-cons}
 use Rattle.arena.specs.Code.{cellSize, code, codes, ValueAt, Same, AllFit, orderCode, SomeAt, EndsAt, Rises, SetBelow, ValueBelow, Front}
 use Rattle.arena.proofs.CodeLaws.{length-code, length-codes, fits-small}
-use Rattle.arena.proofs.Standing.{stands-head, stands-tail, stands-front, stands-back, stands-frame}
+use Rattle.arena.proofs.Standing.{stands-head, stands-tail, first-stands, rest-stand, stands-frame}
 
 -- Members one behind the other.
 pub codes-append : (xs ys : List Value) → codes (values (xs ++ ys)) ≡ codes (values xs) ++ codes (values ys)
@@ -64,13 +64,11 @@ module _ (s : List ℕ) (top a : ℕ) (vs : Values) (h : SetBelow s top a vs) wh
 module _ (s : List ℕ) (top at n : ℕ) (v : Value) (vs : Values) (h : Front s top at n (v ▸ vs)) where
   -- The first member, and those behind it.
   pub front-value : ValueAt s at v
-  unfolding code
-  front-value = stands-front s at (code v) (codes vs) (h .stands)
+  front-value = first-stands s at v vs (h .stands)
 
   pub front-next : (e m : ℕ) → e ≡ at + weight v → suc m ≡ n → Front s top e m vs
-  unfolding code
   front-next e m p q = record {
-    stands = rw (p, ← length-code v) (stands-back s at (code v) (codes vs) (h .stands));
+    stands = rw p (rest-stand s at v vs (h .stands));
     counted = omega (arith, h .counted);
     below = omega (arith, h .below);
     fits = h .fits .1;

@@ -1,13 +1,12 @@
 -- Two rows of values that are compared one by one (`compare_rows`, `compare`): the values that are left, and the order of those that have been passed.
 -- That order and the order of those that are left give the order of the whole (`RowsLeft`).
-use Rattle.arena.proofs.Base.{ℕ, _+_, _*_, _-_, _≤_, _<_, compare, Ordering, Ordering·eq, Bool, true, false, List, _++_, _≡_, refl, sym, ap, _∙_, subst, arith, add-zero, ltb, length, getD, lt-ltb, le-ltb}
+use Rattle.arena.proofs.Base.{ℕ, _+_, _*_, _-_, _≤_, _<_, compare, Ordering, Ordering·eq, Bool, true, false, List, _≡_, refl, sym, ap, _∙_, subst, arith, add-zero, ltb, length, getD, lt-ltb, le-ltb}
 use Rattle.rules.specs.Values.{Value, scalar, pair, set, Values, none, _▸_, count, weight, weights, _then_, order}
 use Rattle.laws.proofs.OrderLaws.{then-end, then-first, then-assoc}
-use Rattle.arena.specs.Code.{cellSize, code, codes, ValueAt, CellsFit, orderCode, SomeAt, EndsAt, partsOf, thenNext, rowOrder, ThenNext, RowAt, SomeRow, SomeLeft, RowsLeft, RowsBegun, ValuesCompared, RowsCompared}
+use Rattle.arena.specs.Code.{cellSize, codes, ValueAt, CellsFit, orderCode, SomeAt, EndsAt, partsOf, thenNext, rowOrder, ThenNext, RowAt, SomeRow, SomeLeft, RowsLeft, RowsBegun, ValuesCompared, RowsCompared}
 use Rattle.arena.specs.declared.Rows.{Rows}
-use Rattle.arena.proofs.CodeLaws.{length-code, length-codes, scalar-small}
-use Rattle.laws.proofs.CellsLaws.{count-weights}
-use Rattle.arena.proofs.Standing.{ownCell, inner, _before_, code-inner, weight-inner, fit-inner, codes-before, count-before, fit-before, parts-stand, stands-own, stands-front, stands-back, stands-tail}
+use Rattle.arena.proofs.CodeLaws.{scalar-small}
+use Rattle.arena.proofs.Standing.{ownCell, inner, _before_, code-inner, weight-inner, fit-inner, parts-stand, stands-own, stands-tail, first-stands, rest-stand}
 use Rattle.arena.proofs.ValueParts.{some-inside, one-cell}
 use Rattle.arena.proofs.FrontLaws.{code-equal}
 use Rattle.arena.proofs.EvenLaws.{cell-compared}
@@ -38,34 +37,15 @@ row-before last (x ▸ xs) (y ▸ ys) vs ws e =
     ∙ sym (thenNext-assoc last (order x y) (rowOrder last xs ys) (rowOrder last vs ws))
 
 -- The first value of a row, and those behind it.
-module _ (s : List ℕ) (at n : ℕ) (v : Value) (vs : Values) (h : RowAt s at n (v ▸ vs)) where
-  pub row-value : ValueAt s at v
-  unfolding code
-  row-value = stands-front s at (code v) (codes vs) (h .stands)
+pub row-some : (s : List ℕ) (at n : ℕ) (v : Value) (vs : Values) → RowAt s at n (v ▸ vs) → SomeAt s at
+row-some s at n v vs h = record { value = v; stands = first-stands s at v vs (h .stands); fits = h .fit .0 }
 
-  pub row-some : SomeAt s at
-  row-some = record { value = v; stands = row-value; fits = h .fit .0 }
-
-  row-rest : (e : ℕ) → e ≡ at + weight v → RowAt s e (n - 1) vs
-  unfolding code
-  row-rest e p = record {
-    stands = rw (p, ← length-code v) (stands-back s at (code v) (codes vs) (h .stands));
-    fit = h .fit .1;
-    counted = omega (arith, h .counted);
-  }
-
-  -- the first value's own cell passed
-  pub row-open : RowAt s (at + 1) (n - 1 + partsOf (getD s at 0)) (inner v before vs)
-  unfolding code
-  row-open = record {
-    stands = rw (codes-before (inner v) vs) (stands-tail s at (ownCell v) (codes (inner v) ++ codes vs) (rw (code-inner v) at (h .stands)));
-    fit = fit-before (inner v) vs (fit-inner v (h .fit .0)) (h .fit .1);
-    counted = omega (arith, count-before (inner v) vs, h .counted, parts-stand s at v row-value (h .fit .0));
-  }
-
--- A row has as many cells as values, or more.
-pub row-inside : (s : List ℕ) (at n : ℕ) → SomeRow s at n → at + n ≤ length s
-row-inside s at n (vs, h) = omega (arith, h .stands .inside, length-codes vs, count-weights vs, h .counted)
+row-rest : (s : List ℕ) (at n : ℕ) (v : Value) (vs : Values) → RowAt s at n (v ▸ vs) → (e : ℕ) → e ≡ at + weight v → RowAt s e (n - 1) vs
+row-rest s at n v vs h e p = record {
+  stands = rw p (rest-stand s at v vs (h .stands));
+  fit = h .fit .1;
+  counted = omega (arith, h .counted);
+}
 
 -- What stands behind a value's own cell is a row.
 inner-row : (s : List ℕ) (at : ℕ) (v : Value) → ValueAt s at v → CellsFit v → RowAt s (at + 1) (partsOf (getD s at 0)) (inner v)
@@ -106,8 +86,8 @@ module _ {s : List ℕ} {i j n : ℕ} {last : Bool} {c : ℕ} {whole : Ordering}
   left-next (none, ws, h) l r m d q = absurd (omega (arith, h .first .counted))
   left-next (v ▸ vs, none, h) l r m d q = absurd (omega (arith, h .second .counted))
   left-next (v ▸ vs, w ▸ ws, h) l r m d q =
-      let x = row-value s i n v vs (h .first) in
-      let y = row-value s j n w ws (h .second) in
+      let x = first-stands s i v vs (h .first .stands) in
+      let y = first-stands s j w ws (h .second .stands) in
       let z = m v w x y (h .first .fit .0) (h .second .fit .0) in (
         vs,
         ws,
@@ -126,7 +106,7 @@ module _ {s : List ℕ} {i j n : ℕ} {last : Bool} {c : ℕ} {whole : Ordering}
   left-forward (none, ws, h) l r m = absurd (omega (arith, h .first .counted))
   left-forward (v ▸ vs, none, h) l r m = absurd (omega (arith, h .second .counted))
   left-forward (v ▸ vs, w ▸ ws, h) l r m =
-      omega (arith, m v w (row-value s i n v vs (h .first)) (row-value s j n w ws (h .second)) (h .first .fit .0) (h .second .fit .0) .first)
+      omega (arith, m v w (first-stands s i v vs (h .first .stands)) (first-stands s j w ws (h .second .stands)) (h .first .fit .0) (h .second .fit .0) .first)
 
   -- None is left.
   pub left-end : SomeLeft s i j n last c whole e f → n ≡ 0 → (c ≡ orderCode whole) × (i ≡ e) × (j ≡ f)

@@ -1,7 +1,7 @@
 -- Values that stand in the arena: their cells one by one, where they end, how far two agree, and what copying keeps.
 use Rattle.arena.proofs.Base.{ℕ, suc, _+_, _*_, _-_, _/_, _%_, _≤_, _<_, List, _∷_, _++_, append-assoc, append-nil, _⊎_, inl, inr, _≡_, refl, sym, ap, _∙_, arith, add-zero, ℕ-discrete, decLt, length, getD, setAt, length-append, length-set, List·getD-append, getD-append-add, getD-set-same, getD-set-other, eq-eqb, ne-eqb}
 use Rattle.rules.specs.Values.{Value, scalar, pair, set, Values, none, _▸_, scalarTag, count, weight, weights}
-use Rattle.arena.specs.Code.{cellSize, scalarLow, code, codes, Stands, ValueAt, ValuesAt, Same, CellsFit, AllFit, SomeAt, EndsAt, Copied, partsOf}
+use Rattle.arena.specs.Code.{cellSize, scalarLow, code, codes, Stands, ValueAt, ValuesAt, Same, CellsFit, AllFit, SomeAt, EndsAt, Copied, partsOf, RowAt}
 use Rattle.arena.proofs.CodeLaws.{length-code, length-codes, scalar-small, all-agree}
 use Rattle.laws.proofs.CellsLaws.{count-weights}
 
@@ -124,48 +124,62 @@ leaf-ends s at e v h f = omega (arith, weight-inner v, none-weigh (inner v) (par
 pub leaf-parts : (s : List ℕ) (at : ℕ) (v : Value) → ValueAt s at v → CellsFit v → weight v ≡ 1 → partsOf (getD s at 0) ≡ 0
 leaf-parts s at v h f e = omega (arith, weight-inner v, count-weights (inner v), parts-stand s at v h f)
 
+-- The first of some values, and those behind it.
+pub first-stands : (s : List ℕ) (at : ℕ) (v : Value) (vs : Values) → ValuesAt s at (v ▸ vs) → ValueAt s at v
+unfolding code
+first-stands s at v vs h = stands-front s at (code v) (codes vs) h
+
+pub rest-stand : (s : List ℕ) (at : ℕ) (v : Value) (vs : Values) → ValuesAt s at (v ▸ vs) → ValuesAt s (at + weight v) vs
+unfolding code
+rest-stand s at v vs h = rw (← length-code v) (stands-back s at (code v) (codes vs) h)
+
+-- Rows: a row of one value, how many cells there are, and the first value opened: its own cell passed.
+pub row-one : (s : List ℕ) (at : ℕ) (v : Value) → ValueAt s at v → CellsFit v → RowAt s at 1 (v ▸ none)
+unfolding code
+row-one s at v h f = record { stands = rw (append-nil (code v)) h; fit = (f, tt); counted = refl }
+
+pub row-inside : (s : List ℕ) (at n : ℕ) (vs : Values) → RowAt s at n vs → at + n ≤ length s
+row-inside s at n vs h = omega (arith, h .stands .inside, length-codes vs, count-weights vs, h .counted)
+
+pub row-open : (s : List ℕ) (at n : ℕ) (v : Value) (vs : Values) → RowAt s at n (v ▸ vs) →
+    RowAt s (at + 1) (n - 1 + partsOf (getD s at 0)) (inner v before vs)
+unfolding code
+row-open s at n v vs h = record {
+  stands = rw (codes-before (inner v) vs) (stands-tail s at (ownCell v) (codes (inner v) ++ codes vs) (rw (code-inner v) at (h .stands)));
+  fit = fit-before (inner v) vs (fit-inner v (h .fit .0)) (h .fit .1);
+  counted = omega (arith, count-before (inner v) vs, h .counted, parts-stand s at v (first-stands s at v vs (h .stands)) (h .fit .0));
+}
+
 -- `left` values stand from i to e.
 pub record Pending (s : List ℕ) (i left e : ℕ) : Type 0 where
   pub values : Values
-  pub counted : count values ≡ left
-  pub stands : ValuesAt s i values
-  pub fit : AllFit values
+  pub row : RowAt s i left values
   pub ends : i + weights values ≡ e
 
 pub pending-start : (s : List ℕ) (at : ℕ) (v : Value) → ValueAt s at v → CellsFit v → Pending s at 1 (at + weight v)
-unfolding code
-pending-start s at v h f = record {
-  values = v ▸ none;
-  counted = refl;
-  stands = rw (append-nil (code v)) h;
-  fit = (f, tt);
-  ends = omega arith;
-}
+pending-start s at v h f = record { values = v ▸ none; row = row-one s at v h f; ends = omega arith }
 
 module _ (s : List ℕ) (i left e : ℕ) (p : Pending s i left e) where
   -- One cell further.
   pub pending-step : 0 < left → Pending s (i + 1) (left - 1 + partsOf (getD s i 0)) e
-  unfolding code
-  pending-step l = go (p .values) (p .counted) (p .stands) (p .fit) (p .ends)
+  pending-step l = go (p .values) (p .row) (p .ends)
     where
-      go : (vs : Values) → count vs ≡ left → ValuesAt s i vs → AllFit vs → i + weights vs ≡ e → Pending s (i + 1) (left - 1 + partsOf (getD s i 0)) e
-      go none c h f en = absurd (omega arith)
-      go (v ▸ vs) c h f en = record {
+      go : (vs : Values) → RowAt s i left vs → i + weights vs ≡ e → Pending s (i + 1) (left - 1 + partsOf (getD s i 0)) e
+      go none h en = absurd (omega (arith, h .counted))
+      go (v ▸ vs) h en = record {
         values = inner v before vs;
-        counted = omega (arith, count-before (inner v) vs, parts-stand s i v (stands-front s i (code v) (codes vs) h) (f .0));
-        stands = rw (codes-before (inner v) vs) (stands-tail s i (ownCell v) (codes (inner v) ++ codes vs) (rw (code-inner v) at h));
-        fit = fit-before (inner v) vs (fit-inner v (f .0)) (f .1);
+        row = row-open s i left v vs h;
         ends = omega (arith, weights-before (inner v) vs, weight-inner v);
       }
 
   pub pending-inside : 0 < left → i < length s
-  pending-inside l = omega (arith, count-weights (p .values), p .counted, p .stands .inside, length-codes (p .values))
+  pending-inside l = omega (arith, row-inside s i left (p .values) (p .row))
 
   pub pending-end : left ≡ 0 → i ≡ e
-  pending-end z = omega (arith, none-weigh (p .values) (p .counted ∙ z), p .ends)
+  pending-end z = omega (arith, none-weigh (p .values) (p .row .counted ∙ z), p .ends)
 
   pub pending-few : left ≤ length s
-  pending-few = omega (arith, count-weights (p .values), p .counted, p .stands .inside, length-codes (p .values))
+  pending-few = omega (arith, row-inside s i left (p .values) (p .row))
 
 -- Comparing two runs: the cells agree so far.
 abbrev pub Agree : List ℕ → ℕ → ℕ → ℕ → Type 0

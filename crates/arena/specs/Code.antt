@@ -143,7 +143,7 @@ pub record RowsBegun (s : List ℕ) (a b n : ℕ) (last : Bool) (r : Rows) : Typ
       SomeLeft s (r .a) (r .b) (n - (r .a - a)) last (r .order) (rowOrder last vs ws) (a + weights vs) (b + weights ws)
 
 -- r has the order o, and where m cells from a on and n from b on end.
-pub record Met (a b : ℕ) (o : Ordering) (m n : ℕ) (r : Rows) : Type 0 where
+pub record OrderAndEnds (a b : ℕ) (o : Ordering) (m n : ℕ) (r : Rows) : Type 0 where
   pub order : r .order ≡ orderCode o
   pub first : r .a ≡ a + m
   pub second : r .b ≡ b + n
@@ -151,12 +151,12 @@ pub record Met (a b : ℕ) (o : Ordering) (m n : ℕ) (r : Rows) : Type 0 where
 -- The values at a and b have been compared.
 abbrev pub ValuesCompared : List ℕ → ℕ → ℕ → Rows → Type 0
 ValuesCompared s a b r =
-    (v w : Value) → ValueAt s a v → ValueAt s b w → CellsFit v → CellsFit w → Met a b (order v w) (weight v) (weight w) r
+    (v w : Value) → ValueAt s a v → ValueAt s b w → CellsFit v → CellsFit w → OrderAndEnds a b (order v w) (weight v) (weight w) r
 
 -- So n values from a on and n from b on.
 abbrev pub RowsCompared : List ℕ → ℕ → ℕ → ℕ → Bool → Rows → Type 0
 RowsCompared s a b n last r =
-    (vs ws : Values) → RowAt s a n vs → RowAt s b n ws → Met a b (rowOrder last vs ws) (weights vs) (weights ws) r
+    (vs ws : Values) → RowAt s a n vs → RowAt s b n ws → OrderAndEnds a b (rowOrder last vs ws) (weights vs) (weights ws) r
 
 -- n cells from `from` on have been copied to `to`, and nothing else is changed.
 pub record Copied (s : List ℕ) (from n to : ℕ) (s′ : List ℕ) : Type 0 where

@@ -16,9 +16,9 @@ use Rattle.laws.proofs.CellsLaws.{weight-some, count-weights}
 use Rattle.arena.specs.Code.{cellSize, code, codes, ValueAt, ValuesAt, CellsFit, AllFit, SomeAt, EndsAt}
 use Rattle.arena.proofs.CodeLaws.{length-code}
 use Rattle.arena.proofs.FrontLaws.{single}
-use Rattle.arena.proofs.Standing.{stands-tail, _before_, codes-before, weights-before, fit-before, ownCell, inner, code-inner, weight-inner, fit-inner}
+use Rattle.arena.proofs.Standing.{stands-tail, first-stands, _before_, codes-before, weights-before, fit-before, ownCell, inner, code-inner, weight-inner, fit-inner}
 use Rattle.arena.proofs.ValueParts.{first-cell}
-use Rattle.fitting.proofs.Cells.{first-stands, members-stand, scalar-low}
+use Rattle.fitting.proofs.Cells.{members-stand, scalar-low}
 use Rattle.fitting.proofs.Sharing.{left-typed, right-typed}
 use Rattle.canonical.specs.Ordered.{ordered, orderedAll}
 use Rattle.canonical.specs.Shared.{AllOf, AllTyped, TypedRow, SomeTypedRow, fineMembers, MembersFine, isFlat, setsEnd}

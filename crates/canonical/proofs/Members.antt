@@ -16,10 +16,10 @@ use Rattle.laws.proofs.EndLaws.{T-true, T-false}
 use Rattle.laws.proofs.FitsLaws.{_⊑_, ⊓-join, ⊓-split, inhabited→some, some→inhabited}
 use Rattle.arena.specs.Code.{codes, Stands, EndsAt, Compared, orderCode}
 use Rattle.arena.proofs.CodeLaws.{length-codes}
-use Rattle.arena.proofs.Standing.{stands-append, _before_, codes-before, count-before, weights-before, fit-before}
+use Rattle.arena.proofs.Standing.{stands-append, first-stands, rest-stand, _before_, codes-before, count-before, weights-before, fit-before}
 use Rattle.fitting.specs.Agree.{meets, agree, TypedAt, RunAt, SomeTyped, AgreedWith, NoEmpty, Full, StandFor, Agreed}
 use Rattle.fitting.proofs.Sharing.{meets→share, share→meets, meets-sym, full-first}
-use Rattle.fitting.proofs.Cells.{as-run, run-head, run-of, end-is, full-value, first-stands, rest-stand, run-whole, rest-last}
+use Rattle.fitting.proofs.Cells.{as-run, run-head, run-of, end-is, full-value, run-whole, rest-last}
 use Rattle.canonical.specs.Ordered.{inOrder}
 use Rattle.canonical.specs.Shared.{TypedRow, fineMembers, SomeTypedRow}
 

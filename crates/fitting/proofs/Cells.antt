@@ -14,7 +14,7 @@ use Rattle.rules.specs.Values.{Scalar, num, truth, element, Value, scalar, pair
 use Rattle.rules.specs.Fits.{TypeSet, atomˢ, _⊓_, typesOf, sharedTypes, inhabited, typed}
 use Rattle.arena.specs.Code.{cellSize, code, codes, ValueAt, ValuesAt, CellsFit, SomeAt, EndsAt, AllPairs}
 use Rattle.arena.proofs.CodeLaws.{length-code}
-use Rattle.arena.proofs.Standing.{stands-head, stands-tail, stands-front, stands-back}
+use Rattle.arena.proofs.Standing.{stands-head, stands-tail, first-stands, rest-stand}
 use Rattle.arena.proofs.FrontLaws.{single}
 use Rattle.arena.proofs.ValueParts.{some-inside, first-cell, left-stands, right-stands}
 use Rattle.fitting.specs.Agree.{meets, agree, TypedAt, RunAt, SomeTyped, SomeRun, Agreed, AgreedAll, emptyCell, NoEmpty, Members, Full, FullSet, FullAll, Few, atomsAlike, PairOrSet, SetHere}
@@ -31,14 +31,6 @@ no-empty-more s at i h n = record { none = λ j p q. elim (ℕ-discrete j i) [ y
 pub members-stand : (s : List ℕ) (at : ℕ) (vs : Values) → ValueAt s at (set vs) → ValuesAt s (at + 1) vs
 unfolding code
 members-stand s at vs h = stands-tail s at (5 * cellSize + count vs) (codes vs) h
-
-pub first-stands : (s : List ℕ) (at : ℕ) (v : Value) (vs : Values) → ValuesAt s at (v ▸ vs) → ValueAt s at v
-unfolding code
-first-stands s at v vs h = stands-front s at (code v) (codes vs) h
-
-pub rest-stand : (s : List ℕ) (at : ℕ) (v : Value) (vs : Values) → ValuesAt s at (v ▸ vs) → ValuesAt s (at + weight v) vs
-unfolding code
-rest-stand s at v vs h = rw (← length-code v) (stands-back s at (code v) (codes vs) h)
 
 pub within : {s : List ℕ} {at end at′ end′ : ℕ} → NoEmpty s at end → at ≤ at′ → end′ ≤ end → NoEmpty s at′ end′
 within h l m = record { none = λ i p q. h .none i (omega arith) (omega arith) }

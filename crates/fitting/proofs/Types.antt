@@ -14,10 +14,10 @@ use Rattle.rules.specs.Fits.{atomOf, typesOf, sharedTypes, HasType, HaveType}
 use Rattle.laws.proofs.FitsLaws.{has→types}
 use Rattle.rules.proofs.TypeLaws.{weight-positive, prefix-length, prefixes, atomCode-injective}
 use Rattle.arena.specs.Code.{cellSize, scalarLow, Stands, ValuesAt, ScalarFits, AllFit, SomeAt, EndsAt}
-use Rattle.arena.proofs.Standing.{stands-head, stands-tail, stands-front, stands-back}
+use Rattle.arena.proofs.Standing.{stands-head, stands-tail, stands-front, stands-back, first-stands, rest-stand}
 use Rattle.fitting.specs.Types.{TypeAt, SomeType, TypeEnds, typeParts, Decides, atomIs, OfType, ValuesAndType}
 use Rattle.arena.proofs.ValueParts.{first-cell, left-stands, right-stands}
-use Rattle.fitting.proofs.Cells.{tag-set, tag-pair, members-stand, first-stands, rest-stand}
+use Rattle.fitting.proofs.Cells.{tag-set, tag-pair, members-stand}
 use Rattle.fitting.proofs.Sharing.{as-power, as-product}
 use Rattle.laws.proofs.CellsLaws.{weight-some}
 

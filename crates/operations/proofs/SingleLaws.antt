@@ -2,14 +2,14 @@
 -- tells what the node gives by what has been made, by where the least member stands, or by a cell.
 use Rattle.operations.proofs.Base.{ℕ, _+_, _%_, _≤_, Bool, true, false, not, List, [], _∷_, _≢_, _≡_, refl, ap, sym, subst, _∙_, arith, le-leb, not-true, not-false, pos, length, getD}
 use Rattle.operations.proofs.Terms.{Value, set, Values, none, _▸_, int, members, count, weight, One, singleton, power, dom, ran, card, choice, one, t̂, û, P̂, _×̂_, oneRule, fits, lacks, oneValue, code, SetBelow, SomeRelation, SomeSet, SomeValue, Same, FitOne, Sizes, GoodAt, weighed, oneGiven, ended, GivenCell, Gives, OneReady, OneDone, OneOf, sideKind, Outcome, Within, Cell, Lacks}
-use Rattle.arena.proofs.Standing.{same-refl}
+use Rattle.arena.proofs.Standing.{same-refl, first-stands}
 use Rattle.arena.proofs.ValueParts.{first-cell}
 use Rattle.products.specs.Growing.{Singles}
 use Rattle.parts.specs.Parts.{Domains, Ranges}
 use Rattle.powers.specs.Power.{Powers}
 use Rattle.powers.proofs.PowerLaws.{members-count}
 use Rattle.fitting.specs.Agree.{SomeTyped}
-use Rattle.fitting.proofs.Cells.{members-stand, first-stands}
+use Rattle.fitting.proofs.Cells.{members-stand}
 use Rattle.operations.proofs.GoodLaws.{good-value, good-typed-at}
 use Rattle.operations.proofs.OutcomeLaws.{Makes, makes-frame, makes-gives}
 use Rattle.operations.proofs.FitLaws.{fit-types, on-set, one-any, one-fits, one-set, one-relation}

@@ -14,7 +14,6 @@ use Rattle.rules.specs.Cells.{bytes4}
 use Rattle.rules.specs.Runs.{Trace, Run}
 use Rattle.rules.specs.Evaluation.{evaluation}
 use Rattle.rules.specs.Safety.{All}
-use Rattle.rules.proofs.Basics.{_&_}
 
 -- The bytes of words.
 abbrev pub toBytes : List ℕ → List ℕ
@@ -222,10 +221,10 @@ conditions =
     (4, integer 1) ∷ (5, integer 2) ∷ (6, oneWith 2) ∷ (7, setWith (oneWith 2 ∷ [])) ∷
     (8, setWith (oneWith 2 ∷ oneWith 3 ∷ [])) ∷ (9, integer 1) ∷ []) ∷ []
 
--- Evaluate's run of a condition is what its row tells.
+-- Evaluate's run of a condition is what its row tells. One by one, so that a wrong definition is refused at the row that it gets wrong.
 abbrev pub RunsAsTold : Condition → Type 0
 RunsAsTold c = evaluation (toBytes (c .words)) (c .buffer) (c .budget) ≡ c .runs
 
 pub conditions-run : All RunsAsTold conditions
 unfolding evaluation
-conditions-run = refl & refl & refl & refl & refl & refl & refl & refl & refl & refl & refl & refl & tt
+conditions-run = (refl, (refl, (refl, (refl, (refl, (refl, (refl, (refl, (refl, (refl, (refl, (refl, tt))))))))))))

@@ -1,6 +1,7 @@
 -- `compare_cells`: as many scalars have been passed in both rows, and their order and the values that are left decide.
 use Rattle.arena.proofs.Base.{needs, _+_, _-_, _≤_, _<_, arith, length}
-use Rattle.arena.proofs.RowOrder.{row-inside, LeftFrom, cells-start, cells-inside, cells-next, cells-end}
+use Rattle.arena.proofs.Standing.{row-inside}
+use Rattle.arena.proofs.RowOrder.{LeftFrom, cells-start, cells-inside, cells-next, cells-end}
 use Rattle.arena.proofs.compare_cells.Statement.{statement}
 use Rattle.arena.proofs.compare_cells.Tie as tie
 
@@ -59,6 +60,6 @@ compare-cells-spec =
       cells-next (q .s .now) (q .a) (q .b) (q .n) (q .last) _ _ (t .before .loop .inv .1) (t .loop-test .taken)
           (omega (arith, x .before .if1 .left)) (omega (arith, x .if2 .left)) _ _ (c .before .cell-order .ensures) (c .then-next .ensures),
     ))
-    (λ c. let q = c .before .before .before in omega (arith, row-inside _ _ _ (q .pre .0), c .before .loop .inv .0))
-    (λ c. let q = c .before .before .before in omega (arith, row-inside _ _ _ (q .pre .1), c .before .loop .inv .0))
+    (λ c. let q = c .before .before .before in omega (arith, row-inside _ _ _ _ (q .pre .0 .1), c .before .loop .inv .0))
+    (λ c. let q = c .before .before .before in omega (arith, row-inside _ _ _ _ (q .pre .1 .1), c .before .loop .inv .0))
     (λ c. cells-end _ _ _ _ _ _ _ (c .before .loop .inv .1) (c .before .loop .inv .0)))
