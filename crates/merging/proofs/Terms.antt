@@ -8,8 +8,8 @@ unfoldable pub use Rattle.arena.specs.Code.{code}
 pub use Rattle.arena.specs.Code.{Copied, EndsAt, FineSet, Front, Same, Stands, ValueAt, ValuesAt, codes}
 pub use Rattle.sets.specs.Fronts.{Cells, RunEnds, TurnAt, TwoRuns, firstOf, keepOf, restLeft, restRight}
 pub use Rattle.sets.specs.declared.Turn.{Turn}
-unfoldable pub use Rattle.merging.specs.Merged.{merged}
-pub use Rattle.merging.specs.Merged.{turned}
+unfoldable pub use Rattle.rules.specs.Merges.{merged}
+pub use Rattle.rules.specs.Merges.{turned}
 pub use Rattle.merging.specs.RowMerges.{Ahead, CellTurned, RowMerge, RowsBelow}
 pub use Rattle.merging.specs.Walks.{BuiltTo, EndPre, Ended, Merges, Merging, PutBehind, PutPre, RestOf, RestThere, RunsMerge, StepPre, Stepped, Walking}
 pub use Rattle.merging.specs.declared.CellTurn.{CellTurn}

@@ -12,7 +12,7 @@ use Rattle.sets.specs.Fronts.{Cells, TwoRuns}
 use Rattle.merging.specs.declared.Out.{Out}
 use Rattle.merging.specs.declared.Walk.{Walk}
 use Rattle.merging.specs.declared.Rest.{Rest}
-use Rattle.merging.specs.Merged.{merged}
+use Rattle.rules.specs.Merges.{merged}
 
 -- A run of members from `at` on.
 abbrev pub SomeFront : List ℕ → ℕ → ℕ → Type 0

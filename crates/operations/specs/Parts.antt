@@ -11,7 +11,7 @@ use Rattle.rules.specs.Rules.{t̂, P̂, twoRule}
 use Rattle.rules.specs.Runs.{gives}
 use Rattle.rules.specs.Operations.{setOf, ranged, twoValue}
 use Rattle.arena.specs.Code.{FineSet}
-use Rattle.merging.specs.Merged.{merged}
+use Rattle.rules.specs.Merges.{merged}
 use Rattle.operations.specs.declared.Outcome.{Outcome}
 use Rattle.operations.specs.Outcomes.{weighed, Gives, TwoDone}
 

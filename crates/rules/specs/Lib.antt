@@ -12,6 +12,7 @@ pub mod Binding
 pub mod Cells
 pub mod Runs
 pub mod Operations
+pub mod Merges
 pub mod Evaluation
 pub mod Visits
 pub mod Verdict
