@@ -120,10 +120,10 @@ pub fn same(s: &[u64], a: usize, end: usize, b: usize) -> bool
 }
 
 // Two rows of values that have been compared: their order, and where they end.
-struct Rows {
-    order: u8,
-    a: usize,
-    b: usize,
+pub struct Rows {
+    pub order: u8,
+    pub a: usize,
+    pub b: usize,
 }
 
 // The order o of some values and then p of the next: the first that is a difference decides, or (if last) the last.
@@ -171,7 +171,7 @@ fn apart(s: &[u64], a: usize, b: usize) -> Rows
 }
 
 // Two values: their own cells, then what stands behind these, the parts of a pair from left to right, the members of a set from the greatest down.
-fn compare_values(s: &[u64], a: usize, b: usize) -> Rows
+pub fn compare_values(s: &[u64], a: usize, b: usize) -> Rows
     requires { ⌜ SomeAt (now s) a × SomeAt (now s) b ⌝ }
     ensures { λ r. ⌜ ValuesCompared (now (s .entry)) a b r ⌝ }
 {

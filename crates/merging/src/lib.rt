@@ -5,7 +5,7 @@ ghost use mathlib.Core.Path.{_≡_};
 ghost use lib.ListN.{length};
 ghost use Rattle.arena.specs.Code.{SomeSet};
 ghost use Rattle.sets.specs.Fronts.{RunEnds};
-ghost use Rattle.merging.specs.Walks.{PutPre, PutBehind, RestThere, StepPre, Stepped, RestOf, EndPre, Ended, RunsBelow, RunsMerge, Merges};
+ghost use Rattle.merging.specs.Walks.{PutPre, PutBehind, RestThere, StepPre, Stepped, RestOf, EndPre, Ended, SomeRuns, Compares, RunsBelow, RunsMerge, Merges};
 ghost use Rattle.sets.specs.Rows.{Row};
 ghost use Rattle.merging.specs.RowMerges.{Kept, CellTurned, RowsBelow, Ahead, FrontsMerge};
 
@@ -15,7 +15,7 @@ struct Out {
     count: u64,
 }
 
-// A merge on its way: what is left of both sets, and what has been built.
+// A merge on its way: what is left of both sets, what has been built, and the comparisons made.
 struct Walk {
     a: usize,
     m: u64,
@@ -23,6 +23,13 @@ struct Walk {
     n: u64,
     to: usize,
     count: u64,
+    turns: u64,
+}
+
+// Where the set that a merge has built ends, 0 where it weighs over 256, and the comparisons of the whole merge.
+pub struct Pass {
+    pub end: usize,
+    pub comparisons: u64,
 }
 
 // Where a merge of cells stands: at a in one set and at b in the other, and what has been built ends at `to`.
@@ -104,6 +111,7 @@ fn step(s: &mut [u64], w: Walk, left: bool, both: bool, right: bool) -> Walk
         n: t.n,
         to: o.to,
         count: o.count,
+        turns: w.turns + 1,
     }
 }
 
@@ -241,7 +249,8 @@ fn merge_fronts(
     }
 }
 
-// Builds at top the set as `merge` does, of m cells from a on and n from b on. The cell of a turn is stored whether it is kept or not.
+// Builds at top the set as `merge` does, of m cells from a on and n from b on. The cell of a turn is stored whether it is kept or not. Each cell
+// that `merge_fronts` has passed is a comparison.
 fn merge_cells(
     s: &mut [u64],
     a: usize,
@@ -252,7 +261,7 @@ fn merge_cells(
     left: bool,
     both: bool,
     right: bool,
-) -> usize
+) -> Pass
     requires { ⌜ RowsBelow (now s) a m b n top ⌝ }
     ensures { λ r. ⌜ RunsMerge left both right (now (s .entry)) a m b n top (now (s .exit)) r ⌝ }
 {
@@ -262,12 +271,14 @@ fn merge_cells(
     let mut i = w.a;
     let mut j = w.b;
     let mut to = w.to;
+    let mut turns = i - a + (j - b);
     while i < end && j < end2 {
         let t = cell_turn(s[i], s[j], left, both, right);
         s[to] = t.cell;
         to += t.keep;
         i += t.left;
         j += t.right;
+        turns += 1;
     }
     let rest = Walk {
         a: i,
@@ -276,11 +287,36 @@ fn merge_cells(
         n: (end2 - j) as u64,
         to: to,
         count: (to - top - 1) as u64,
+        turns: turns as u64,
     };
-    finish(s, rest, top, left, right, true)
+    Pass {
+        end: finish(s, rest, top, left, right, true),
+        comparisons: turns as u64,
+    }
 }
 
-// The same of m members from a on and n from b on, member by member.
+// The comparisons of a merge of m members from a on and n from b on.
+fn comparisons(s: &[u64], a: usize, m: u64, b: usize, n: u64) -> u64
+    requires { ⌜ SomeRuns (now s) a m b n ⌝ }
+    ensures { λ r. ⌜ Compares (now (s .entry)) a m b n r ⌝ }
+{
+    let mut i = a;
+    let mut left = m;
+    let mut j = b;
+    let mut others = n;
+    let mut turns: u64 = 0;
+    while left > 0 && others > 0 {
+        let t = sets::turn_at(s, i, left, j, others, true, true, true);
+        i = t.a;
+        left = t.m;
+        j = t.b;
+        others = t.n;
+        turns += 1;
+    }
+    turns
+}
+
+// The same of m members from a on and n from b on, member by member. What is too heavy is built no further, and only its comparisons are counted.
 fn walk_merge(
     s: &mut [u64],
     a: usize,
@@ -291,7 +327,7 @@ fn walk_merge(
     left: bool,
     both: bool,
     right: bool,
-) -> usize
+) -> Pass
     requires { ⌜ RunsBelow (now s) a m b n top ⌝ }
     ensures { λ r. ⌜ RunsMerge left both right (now (s .entry)) a m b n top (now (s .exit)) r ⌝ }
 {
@@ -303,15 +339,20 @@ fn walk_merge(
         n: n,
         to: top + 1,
         count: 0,
+        turns: 0,
     };
     while w.m > 0 && w.n > 0 && w.to <= limit {
         w = step(s, w, left, both, right);
     }
-    finish(s, w, top, left, right, false)
+    let more = comparisons(s, w.a, w.m, w.b, w.n);
+    Pass {
+        end: finish(s, w, top, left, right, false),
+        comparisons: w.turns + more,
+    }
 }
 
-// Builds at top the set of the members that are only in the set at a (if left), in both (if both), only in the set at b (if right);
-// answers where it ends, or 0 where it weighs over 256. By cells where the members of both sets are one cell each.
+// Builds at top the set of the members that are only in the set at a (if left), in both (if both), only in the set at b (if right). By cells
+// where the members of both sets are one cell each.
 pub fn merge(
     s: &mut [u64],
     a: usize,
@@ -320,7 +361,7 @@ pub fn merge(
     left: bool,
     both: bool,
     right: bool,
-) -> usize
+) -> Pass
     requires { ⌜ SomeSet (now s) top a × SomeSet (now s) top b × (top + 514 ≤ length (now s)) ⌝ }
     ensures { λ r. ⌜ Merges left both right (now (s .entry)) a b top (now (s .exit)) r ⌝ }
 {

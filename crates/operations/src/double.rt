@@ -23,7 +23,8 @@ pub fn merge(
     if !fitting::alike_sets(s, a, b) {
         return Outcome::Lacks(15);
     }
-    built(merging::merge(s, a, b, top, left, both, right))
+    let pass = merging::merge(s, a, b, top, left, both, right);
+    built(pass.end)
 }
 
 pub fn product(s: &mut [u64], a: usize, b: usize, top: usize) -> Outcome

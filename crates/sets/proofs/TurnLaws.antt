@@ -1,7 +1,7 @@
 -- A turn of a walk over two sets, and inclusion, which takes such turns. Where the members are one cell each, a turn goes by the order of two cells as
 -- numbers.
 use Rattle.sets.proofs.Base.{ℕ, suc, _+_, _-_, _≤_, _<_, Ordering, Ordering·lt, Ordering·eq, Ordering·gt, _%_, Bool, true, false, cond, List, [], _∷_, _≡_, refl, sym, ap, _∙_, subst, arith, length, getD, ltb, eqb, lt-ltb, le-ltb, eqb-true, eqb-false, boolByte}
-use Rattle.sets.proofs.Terms.{Value, Values, _▸_, members, count, weight, order, none, allIn, isIn, CellsFit, orderCode, SomeAt, EndsAt, Compared, Rises, Front, AllFit, SetBelow, Turn, keepOf, restLeft, restRight, Turned, TurnAt, TwoFronts, TwoRuns, Cells, Found, TwoRows}
+use Rattle.sets.proofs.Terms.{Value, Values, _▸_, members, count, weight, order, none, allIn, isIn, CellsFit, orderCode, SomeAt, EndsAt, Compared, ValuesCompared, Rows, Rises, Front, AllFit, SetBelow, Turn, keepOf, restLeft, restRight, Turned, TurnAt, TwoFronts, TwoRuns, Cells, Found, TwoRows}
 use Rattle.laws.proofs.OrderLaws.{flip, order-eq, order-flip, order-before}
 use Rattle.laws.proofs.SetOrder.{All, Before}
 use Rattle.arena.proofs.CodeLaws.{fits-small}
@@ -55,6 +55,15 @@ module _ {s : List ℕ} {a m b n : ℕ} (h : TwoFronts s a m b n) where
 
   pub two-some : (0 < m) × (0 < n)
   two-some = (omega (arith, h .onLeft .counted), omega (arith, h .onRight .counted))
+
+  -- Their first members have been compared: the order, and where each ends.
+  pub two-compared : {r : Rows} → ValuesCompared s a b r → Compared s a b (r .order) × EndsAt s a (r .a) × EndsAt s b (r .b)
+  two-compared d =
+      let first = front-value s (h .top) a m (h .first) (h .rest) (h .onLeft) in
+      let second = front-value s (h .top) b n (h .first′) (h .rest′) (h .onRight) in
+      (λ v w p q f g. d v w p q f g .order,
+      λ v p f. d v (h .first′) p second f (h .onRight .fits .0) .first,
+      λ w q g. d (h .first) w first q (h .onLeft .fits .0) g .second)
 
 pub two-fronts : {s : List ℕ} {top a m b n : ℕ} {vs ws : Values} → Front s top a m vs → Front s top b n ws → 0 < m → 0 < n → TwoFronts s a m b n
 two-fronts {s} {top} {a} {m} {b} {n} =

@@ -140,38 +140,36 @@ pub fn turn_at(
     requires { ⌜ TwoFronts (now s) a m b n ⌝ }
     ensures { λ r. ⌜ TurnAt (now (s .entry)) a m b n left both right r ⌝ }
 {
-    let end = arena::end_of(s, a);
-    let c = arena::compare(s, a, end, b);
-    if c == arena::LESS {
+    let r = arena::compare_values(s, a, b);
+    if r.order == arena::LESS {
         return Turn {
             from: a,
-            end: end,
+            end: r.a,
             keep: left,
-            a: end,
+            a: r.a,
             m: m - 1,
             b: b,
             n: n,
         };
     }
-    let end2 = arena::end_of(s, b);
-    if c == arena::EQUAL {
+    if r.order == arena::EQUAL {
         return Turn {
             from: a,
-            end: end,
+            end: r.a,
             keep: both,
-            a: end,
+            a: r.a,
             m: m - 1,
-            b: end2,
+            b: r.b,
             n: n - 1,
         };
     }
     Turn {
         from: b,
-        end: end2,
+        end: r.b,
         keep: right,
         a: a,
         m: m,
-        b: end2,
+        b: r.b,
         n: n - 1,
     }
 }

@@ -1,34 +1,35 @@
--- `turn_at`: the first of two members, by their order.
+-- `turn_at`: the first of two members, by their order; both ends come with it.
 use Rattle.sets.proofs.Base.{arith}
-use Rattle.sets.proofs.TurnLaws.{turn-less, turn-equal, turn-greater, two-left, two-right, two-some}
+use Rattle.sets.proofs.TurnLaws.{turn-less, turn-equal, turn-greater, two-left, two-right, two-some, two-compared}
 use Rattle.sets.proofs.turn_at.Statement.{statement}
 use Rattle.sets.proofs.turn_at.Tie as tie
 
--- The order of the first members is known; where the left one is not less, the end of the right one is found.
-abbrev lent : tie.After-compare → tie.Start
-lent o = o .before .before .before
+-- The first members have been compared; then the left one is not less.
+abbrev lent : tie.After-compare-values → tie.Start
+lent o = o .before .before
 
-abbrev ordered : tie.After-end-of2 → tie.After-compare
-ordered e = e .before .before
+abbrev compared : tie.Else1 → tie.After-compare-values
+compared l = l .before .before
 
 pub turn-at-spec : {M : Type 1} → statement M
 turn-at-spec =
     tie.close
     (tie.spec
-    (λ c κs. two-left (c .before .pre))
-    (λ c κs. let p = c .before .before .pre in (two-left p, two-right p, c .end-of .ensures))
-    (λ c. omega (arith, two-some (lent (c .before) .pre) .0))
-    (λ c. let o = c .before in
-    turn-less (o .compare .ensures) (o .before .end-of .ensures) (c .if1 .taken) (omega (arith, two-some (lent o .pre) .0)))
-    (λ c κs. two-right (lent (c .before) .pre))
-    (λ c. omega (arith, two-some (lent (ordered (c .before)) .pre) .0))
-    (λ c. omega (arith, two-some (lent (ordered (c .before)) .pre) .1))
-    (λ c. let e = c .before in
-    let o = ordered e in
-    let p = two-some (lent o .pre) in
-    turn-equal (o .compare .ensures) (o .before .end-of .ensures) (e .end-of2 .ensures) (omega (arith, p .1)) (c .if2 .taken) (omega (arith, p .0)))
-    (λ c. omega (arith, two-some (lent (ordered (c .before)) .pre) .1))
-    (λ c. let e = c .before in
-    let o = ordered e in
-    turn-greater (o .compare .ensures) (o .before .end-of .ensures) (e .end-of2 .ensures) (omega (arith, two-some (lent o .pre) .1)) (e .before .if1 .left)
-    (c .if2 .left)))
+    (λ c κs. let p = c .before .pre in (two-left p, two-right p))
+    (λ c. omega (arith, two-some (lent (c .before .before) .pre) .0))
+    (λ c. let o = c .before .before in
+    let p = lent o .pre in
+    let d = two-compared p (o .compare-values .ensures) in
+    turn-less (d .0) (d .1) (c .if1 .taken) (omega (arith, two-some p .0)))
+    (λ c. omega (arith, two-some (lent (compared (c .before .before)) .pre) .0))
+    (λ c. omega (arith, two-some (lent (compared (c .before .before)) .pre) .1))
+    (λ c. let o = compared (c .before .before) in
+    let p = lent o .pre in
+    let d = two-compared p (o .compare-values .ensures) in
+    turn-equal (d .0) (d .1) (d .2) (omega (arith, two-some p .1)) (c .if2 .taken) (omega (arith, two-some p .0)))
+    (λ c. omega (arith, two-some (lent (compared (c .before .before)) .pre) .1))
+    (λ c. let l = c .before .before in
+    let o = compared l in
+    let p = lent o .pre in
+    let d = two-compared p (o .compare-values .ensures) in
+    turn-greater (d .0) (d .1) (d .2) (omega (arith, two-some p .1)) (l .if1 .left) (c .if2 .left)))
