@@ -275,7 +275,7 @@ signed-right n = go (ltb n 2147483648) refl
     go true e = le→leb n 2147483647 (omega (arith, ltb→lt n 2147483648 (rw e tt)))
     go false e = le→leb (4294967295 - n) 2147483647 (omega (arith, nltb→le n 2147483648 (rw e tt)))
 
-members-count : (s : Values) → length (members s) ≤ weights s
+pub members-count : (s : Values) → length (members s) ≤ weights s
 members-count none = omega arith
 members-count (v ▸ vs) = omega (arith, weight-some v, members-count vs)
 

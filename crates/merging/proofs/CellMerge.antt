@@ -2,7 +2,7 @@
 -- behind it (`cell-put`); so a turn at two cells is a turn of the merge (`merge-step`). What comes before the other set's first cell is
 -- so many turns on one side (`taken`), with which the merge begins (`merge-start`).
 use Rattle.sets.proofs.Base.{ℕ, zero, suc, _+_, _*_, _-_, _≤_, _<_, Ordering·lt, Ordering·gt, Bool, true, false, cond, List, [], _∷_, _++_, append-assoc, _⊎_, inl, inr, _≡_, refl, sym, ap, _∙_, subst, arith, decLt, length, getD, setAt, length-set, getD-set-same, getD-set-other, le-leb, lt-leb, boolByte}
-use Rattle.merging.proofs.Terms.{Value, Values, none, _▸_, members, count, weight, weights, order, keptValue, code, codes, ValuesAt, Same, EndsAt, Front, Out, Walk, CellTurn, merged, TurnAt, Cells, PutPre, PutBehind, Merging, EndPre, Walking, CellTurned, RowsBelow, Ahead, RowMerge}
+use Rattle.merging.proofs.Terms.{Value, Values, none, _▸_, members, count, weight, weights, order, keptValue, code, codes, ValuesAt, Same, EndsAt, Front, Out, Walk, CellTurn, merged, comparisons, TurnAt, Cells, PutPre, PutBehind, Merging, EndPre, Ended, RunsMerge, Walking, CellTurned, RowsBelow, Ahead, RowMerge}
 use Rattle.laws.proofs.CellsLaws.{count-weights}
 use Rattle.laws.proofs.OrderLaws.{flip, order-flip, lt-compare}
 use Rattle.arena.proofs.CodeLaws.{length-code, length-codes}
@@ -10,8 +10,10 @@ use Rattle.arena.proofs.Standing.{stands-append, stands-frame, same-refl, same-
 use Rattle.arena.proofs.FrontLaws.{front-value, front-next, front-frame}
 use Rattle.arena.proofs.EvenLaws.{cell-order, cell-less, cell-equal, cell-greater}
 use Rattle.merging.proofs.MergedLaws.{merged-turn}
+use Rattle.merging.proofs.ComparisonLaws.{comparisons-turn}
+use Rattle.merging.proofs.CountLaws.{exhausted}
 use Rattle.sets.proofs.TurnLaws.{turn-less, turn-equal, turn-greater, byte-small}
-use Rattle.merging.proofs.BuildLaws.{store-frame, put-kept, put-none, built-none, step-on, walking-end}
+use Rattle.merging.proofs.BuildLaws.{store-frame, put-kept, put-none, built-none, step-on, walking-made, walking-end}
 use Rattle.sets.proofs.RowLaws.{cells-part, cells-first, cells-frame, cells-weigh}
 
 -- What holds of a turn in each case.
@@ -50,13 +52,14 @@ cell-put false {s} {from} {to} {count} l k f =
     rw (let e : to + 0 ≡ to = omega arith in e, let e : count + 0 ≡ count = omega arith in e)
     (put-none (store-frame s to (getD s from 0) (omega arith)))
 
-rows-small : {s : List ℕ} {a m b n top : ℕ} → RowsBelow s a m b n top → (m ≤ 255) × (n ≤ 255) × (a + m ≤ top) × (b + n ≤ top)
+pub rows-small : {s : List ℕ} {a m b n top : ℕ} → RowsBelow s a m b n top → (m ≤ 255) × (n ≤ 255) × (a + m ≤ top) × (b + n ≤ top)
 rows-small p =
     let q = p .rows .runs in
     omega (arith, q .onLeft, q .onRight, count-weights (q .first), count-weights (q .second))
 
--- The first p of a run's members, which are less than the other run's first, are taken one by one: M merges the rest.
-record Taken (k : Bool) (M : List Value → List Value) (s : List ℕ) (top at n : ℕ) (vs : Values) (p : ℕ) : Type 0 where
+-- The first p of a run's members, which are less than the other run's first, are taken one by one, in so many comparisons: M merges the rest, and C
+-- counts its comparisons.
+record Taken (k : Bool) (M : List Value → List Value) (C : List Value → ℕ) (s : List ℕ) (top at n : ℕ) (vs : Values) (p : ℕ) : Type 0 where
   pub first : Values
   pub rest : Values
   pub stands : ValuesAt s at first
@@ -64,12 +67,14 @@ record Taken (k : Bool) (M : List Value → List Value) (s : List ℕ) (top at n
   pub weighs : p ≡ weights first
   pub front : Front s top (at + p) (n - p) rest
   pub all : M (members vs) ≡ cond k (members first) [] ++ M (members rest)
+  pub compared : C (members vs) ≡ p + C (members rest)
 
-module _ (k : Bool) (M : List Value → List Value → List Value)
-    (turn : (x y : Value) (xs ys : List Value) → order x y ≡ Ordering·lt → M (x ∷ xs) (y ∷ ys) ≡ keptValue k x (M xs (y ∷ ys)))
+module _ (k : Bool) (M : List Value → List Value → List Value) (C : List Value → List Value → ℕ)
+    (turn : (x y : Value) (xs ys : List Value) → order x y ≡ Ordering·lt →
+    (M (x ∷ xs) (y ∷ ys) ≡ keptValue k x (M xs (y ∷ ys))) × (C (x ∷ xs) (y ∷ ys) ≡ 1 + C xs (y ∷ ys)))
     {s : List ℕ} {top b n : ℕ} where
   taken : (p : ℕ) {at m : ℕ} (vs ws : Values) → Front s top at m vs → Front s top b n ws → Cells s at m → Cells s b n → Ahead s at m b n p →
-      Taken k (λ xs. M xs (members ws)) s top at m vs p
+      Taken k (λ xs. M xs (members ws)) (λ xs. C xs (members ws)) s top at m vs p
   unfolding code
   taken zero {at} {m} vs ws f g c d h = record {
     first = none;
@@ -79,6 +84,7 @@ module _ (k : Bool) (M : List Value → List Value → List Value)
     weighs = refl;
     front = rw (let z : at + 0 ≡ at = omega arith in z, let z : m - 0 ≡ m = omega arith in z) f;
     all = elim k [ true ↦ refl | false ↦ refl ];
+    compared = omega arith;
   }
   taken (suc p) none ws f g c d h = absurd (omega (arith, f .counted, h .few))
   taken (suc p) (v ▸ vs) none f g c d h = absurd (omega (arith, h .some (omega arith), g .counted))
@@ -100,7 +106,8 @@ module _ (k : Bool) (M : List Value → List Value → List Value)
       first = cell-order s at b v y (front-value s top at m v vs f) (front-value s top b n y ys g) (f .fits .0) (g .fits .0) (cells-weigh g d .0)
           ∙ lt-compare (getD s at 0) (getD s b 0) (less 0 at (omega arith) (omega arith))
 
-      more : Taken k (λ xs. M xs (y ∷ members ys)) s top (at + 1) (m - 1) vs p → Taken k (λ xs. M xs (y ∷ members ys)) s top at m (v ▸ vs) (suc p)
+      more : Taken k (λ xs. M xs (y ∷ members ys)) (λ xs. C xs (y ∷ members ys)) s top (at + 1) (m - 1) vs p →
+          Taken k (λ xs. M xs (y ∷ members ys)) (λ xs. C xs (y ∷ members ys)) s top at m (v ▸ vs) (suc p)
       more t = record {
         first = v ▸ t .first;
         rest = t .rest;
@@ -109,7 +116,8 @@ module _ (k : Bool) (M : List Value → List Value → List Value)
         counted = omega (arith, t .counted);
         weighs = omega (arith, t .weighs, one);
         front = rw (let z : at + suc p ≡ at + 1 + p = omega arith in z, let z : m - suc p ≡ m - 1 - p = omega arith in z) (t .front);
-        all = turn v y (members vs) (members ys) first ∙ rw (t .all) (elim k [ true ↦ refl | false ↦ refl ]);
+        all = turn v y (members vs) (members ys) first .0 ∙ rw (t .all) (elim k [ true ↦ refl | false ↦ refl ]);
+        compared = omega (arith, turn v y (members vs) (members ys) first .1, t .compared);
       }
 
 -- Both fronts, and where the merge goes on.
@@ -133,11 +141,14 @@ module _ {s : List ℕ} {a m b n top : ℕ} (below : RowsBelow s a m b n top) {p
       frame′ = same-trans top (o .to) s s′ s″ frame (put′ .frame) (omega (arith, counts .0))
 
       fronts-merging : (e : Bool) (vs ws : Values) → Front s top a m vs → Front s top b n ws →
-          Merging l e r s″ top (record { a = a + p; m = m - p; b = b + q; n = n - q; to = o′ .to; count = o′ .count })
-          (merged l e r (members vs) (members ws))
+          Merging l e r s″ top (record { a = a + p; m = m - p; b = b + q; n = n - q; to = o′ .to; count = o′ .count; turns = p + q })
+          (members vs) (members ws)
       fronts-merging e vs ws f g =
-          let t = taken l (merged l e r) (merged-turn l e r Ordering·lt) p vs ws f g (below .rows .left) (below .rows .right) h in
-          let u = taken r (λ xs ys. merged l e r ys xs) (λ x y xs ys z. merged-turn l e r Ordering·gt y x ys xs (order-flip x y ∙ ap flip z))
+          let t = taken l (merged l e r) comparisons
+          (λ x y xs ys z. (merged-turn l e r Ordering·lt x y xs ys z, comparisons-turn Ordering·lt x y xs ys z))
+          p vs ws f g (below .rows .left) (below .rows .right) h in
+          let u = taken r (λ xs ys. merged l e r ys xs) (λ xs ys. comparisons ys xs)
+          (λ x y xs ys z. let z = order-flip x y ∙ ap flip z in (merged-turn l e r Ordering·gt y x ys xs z, comparisons-turn Ordering·gt y x ys xs z))
           q ws (t .rest) g (t .front) (below .rows .right) (cells-part (below .rows .left) (omega arith) (omega (arith, h .few))) k in
           let first = cond l (members (t .first)) [] in
           let second = cond r (members (u .first)) [] in
@@ -153,9 +164,10 @@ module _ {s : List ℕ} {a m b n top : ℕ} (below : RowsBelow s a m b n top) {p
                 (omega (arith, u .weighs)) (u .counted);
             all = t .all ∙ ap (λ (zs : List Value). first ++ zs) (u .all)
                 ∙ sym (append-assoc first second (merged l e r (members (t .rest)) (members (u .rest))));
+            compared = omega (arith, t .compared, u .compared);
           }
 
-      pub merge-start : (e : Bool) → RowMerge l e r s a m b n top s″ (a + p) (b + q) (o′ .to)
+      pub merge-start : (e : Bool) → RowMerge l e r s a m b n top s″ (a + p) (b + q) (o′ .to) ((a + p - a) + (b + q - b))
       merge-start e =
           let x = counts in
           let y = put′ .even (omega arith) in
@@ -166,14 +178,20 @@ module _ {s : List ℕ} {a m b n top : ℕ} (below : RowsBelow s a m b n top) {p
             count = o′ .count;
             countIs = omega arith;
             few = omega (arith, put′ .near);
+            turned = omega arith;
             walking = record {
               frame = frame′;
-              on = rw (let z : a + m - (a + p) ≡ m - p = omega arith in z, let z : b + n - (b + q) ≡ n - q = omega arith in z) (fronts-merging e);
+              on = rw (
+                let z : a + m - (a + p) ≡ m - p = omega arith in z,
+                let z : b + n - (b + q) ≡ n - q = omega arith in z,
+                let z : (a + p - a) + (b + q - b) ≡ p + q = omega arith in z,
+              ) (fronts-merging e);
             };
           }
 
 -- A merge on its way.
-module _ {l e r : Bool} {s₀ : List ℕ} {a m b n top : ℕ} {s : List ℕ} {i j to : ℕ} (h : RowMerge l e r s₀ a m b n top s i j to) where
+module _ {l e r : Bool} {s₀ : List ℕ} {a m b n top : ℕ} {s : List ℕ} {i j to turns : ℕ}
+    (h : RowMerge l e r s₀ a m b n top s i j to turns) where
   left-cells : Cells s i (a + m - i)
   left-cells =
       cells-frame (h .walking .frame) (omega (arith, rows-small (h .below) .2, h .onLeft .1))
@@ -186,8 +204,8 @@ module _ {l e r : Bool} {s₀ : List ℕ} {a m b n top : ℕ} {s : List ℕ} {i 
 
   -- A turn at two sets that both have cells left.
   module _ (some : i < a + m) (some′ : j < b + n) where
-    pub merge-inside : (i < top) × (j < top) × (to < length s) × (to + 1 ≤ top + 512)
-    merge-inside = omega (arith, rows-small (h .below), h .below .room, h .walking .frame .kept, h .few, h .countIs)
+    pub merge-inside : (i < top) × (j < top) × (to < length s) × (to + 1 ≤ top + 512) × (turns ≤ 510)
+    merge-inside = omega (arith, rows-small (h .below), h .below .room, h .walking .frame .kept, h .few, h .countIs, h .turned)
 
     ends : EndsAt s i (i + 1)
     ends = cells-first left-cells (omega arith)
@@ -199,7 +217,7 @@ module _ {l e r : Bool} {s₀ : List ℕ} {a m b n top : ℕ} {s : List ℕ} {i 
     next : (keep : Bool) {from i′ j′ : ℕ} → from < top → (i ≤ i′) × (i′ ≤ a + m) × (j ≤ j′) × (j′ ≤ b + n) × (i + j < i′ + j′) →
         TurnAt s i (a + m - i) j (b + n - j) l e r
         (record { from = from; end = from + 1; keep = keep; a = i′; m = a + m - i′; b = j′; n = b + n - j′ }) →
-        RowMerge l e r s₀ a m b n top (setAt s to (getD s from 0)) i′ j′ (to + boolByte keep)
+        RowMerge l e r s₀ a m b n top (setAt s to (getD s from 0)) i′ j′ (to + boolByte keep) (turns + 1)
     next keep {from} low x turn =
         let y = byte-small keep in
         record {
@@ -209,6 +227,7 @@ module _ {l e r : Bool} {s₀ : List ℕ} {a m b n top : ℕ} {s : List ℕ} {i 
           count = h .count + boolByte keep;
           countIs = omega (arith, h .countIs);
           few = omega (arith, h .few, h .onLeft, h .onRight);
+          turned = omega (arith, h .turned, h .onLeft, h .onRight);
           walking = record {
             frame = same-trans top top s₀ s _ (h .walking .frame) (store-frame s to (getD s from 0) (omega (arith, h .countIs))) (omega arith);
             on = λ vs ws f g.
@@ -218,10 +237,10 @@ module _ {l e r : Bool} {s₀ : List ℕ} {a m b n top : ℕ} {s : List ℕ} {i 
         }
 
     pub merge-step : {u : CellTurn} → CellTurned l e r (getD s i 0) (getD s j 0) u →
-        RowMerge l e r s₀ a m b n top (setAt s to (u .cell)) (i + u .left) (j + u .right) (to + u .keep)
+        RowMerge l e r s₀ a m b n top (setAt s to (u .cell)) (i + u .left) (j + u .right) (to + u .keep) (turns + 1)
     merge-step =
         let x = merge-inside in
-        by-turn l e r (getD s i 0) (getD s j 0) (λ c k p q. RowMerge l e r s₀ a m b n top (setAt s to c) (i + p) (j + q) (to + k))
+        by-turn l e r (getD s i 0) (getD s j 0) (λ c k p q. RowMerge l e r s₀ a m b n top (setAt s to c) (i + p) (j + q) (to + k) (turns + 1))
         (λ d. rw (let z : j + 0 ≡ j = omega arith in z) (next l (x .0) (omega arith) (turn-less (cell-less s i j ends′ d) ends refl (omega arith))))
         (λ d. next e (x .0) (omega arith) (turn-equal (cell-equal s i j ends′ d) ends ends′ (omega arith) refl (omega arith)))
         (λ d. rw (let z : i + 0 ≡ i = omega arith in z)
@@ -229,12 +248,20 @@ module _ {l e r : Bool} {s₀ : List ℕ} {a m b n top : ℕ} {s : List ℕ} {i 
 
   -- The end of the merge.
   abbrev pub last : Walk
-  last = record { a = i; m = a + m - i; b = j; n = b + n - j; to = to; count = to - top - 1 }
+  last = record { a = i; m = a + m - i; b = j; n = b + n - j; to = to; count = to - top - 1; turns = turns }
 
   pub last-walking : Walking l e r s₀ a m b n top s last
   last-walking = rw (let z : to - top - 1 ≡ h .count = omega (arith, h .countIs) in z) (h .walking)
 
-  pub merge-end : (a + m ≤ i) ⊎ (b + n ≤ j) → EndPre l r s last top true
-  merge-end o =
-      walking-end last-walking (h .below .rows .runs) (h .below .room)
-      (elim o [ inl z ↦ inl (omega arith) | inr z ↦ inr (inl (omega arith)) ]) λ _. (left-cells, right-cells)
+  module _ (o : (a + m ≤ i) ⊎ (b + n ≤ j)) where
+    pub merge-end : EndPre l r s last top true
+    merge-end =
+        walking-end last-walking (h .below .rows .runs) (h .below .room)
+        (elim o [ inl z ↦ inl (omega arith) | inr z ↦ inr (inl (omega arith)) ]) λ _. (left-cells, right-cells)
+
+    -- One set is exhausted: no comparison is left.
+    pub merge-made : {s′ : List ℕ} {k : ℕ} → Ended l r s last top s′ k →
+        RunsMerge l e r s₀ a m b n top s′ (record { end = k; comparisons = turns })
+    merge-made {s′} {k} d =
+        subst (λ (c : ℕ). RunsMerge l e r s₀ a m b n top s′ (record { end = k; comparisons = c })) (let z : turns + 0 ≡ turns = omega arith in z)
+        (walking-made last-walking d (exhausted (elim o [ inl z ↦ inl (omega arith) | inr z ↦ inr (omega arith) ])))

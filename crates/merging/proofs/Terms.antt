@@ -8,11 +8,12 @@ unfoldable pub use Rattle.arena.specs.Code.{code}
 pub use Rattle.arena.specs.Code.{Copied, EndsAt, FineSet, Front, Same, Stands, ValueAt, ValuesAt, codes}
 pub use Rattle.sets.specs.Fronts.{Cells, RunEnds, TurnAt, TwoRuns, firstOf, keepOf, restLeft, restRight}
 pub use Rattle.sets.specs.declared.Turn.{Turn}
-unfoldable pub use Rattle.rules.specs.Merges.{merged}
-pub use Rattle.rules.specs.Merges.{turned}
+unfoldable pub use Rattle.rules.specs.Merges.{merged, comparisons}
+pub use Rattle.rules.specs.Merges.{turned, comparedNext}
 pub use Rattle.merging.specs.RowMerges.{Ahead, CellTurned, RowMerge, RowsBelow}
-pub use Rattle.merging.specs.Walks.{BuiltTo, EndPre, Ended, Merges, Merging, PutBehind, PutPre, RestOf, RestThere, RunsMerge, StepPre, Stepped, Walking}
+pub use Rattle.merging.specs.Walks.{BuiltTo, Compares, EndPre, Ended, MergeMade, Merges, Merging, PutBehind, PutPre, RestOf, RestThere, RunsMerge, SomeRuns, StepPre, Stepped, Walking}
 pub use Rattle.merging.specs.declared.CellTurn.{CellTurn}
 pub use Rattle.merging.specs.declared.Out.{Out}
+pub use Rattle.merging.specs.declared.Pass.{Pass}
 pub use Rattle.merging.specs.declared.Rest.{Rest}
 pub use Rattle.merging.specs.declared.Walk.{Walk}

@@ -35,16 +35,17 @@ pub record Ahead (s : List ℕ) (a m b n r : ℕ) : Type 0 where
   pub some : 0 < r → 0 < n
   pub less : (i : ℕ) → i < r → getD s (a + 1 * i) 0 < getD s b 0
 
--- A merge of m cells from a on and n from b on that has come to i and j; `count` have been built.
-pub record RowMerge (l e r : Bool) (s₀ : List ℕ) (a m b n top : ℕ) (s : List ℕ) (i j to : ℕ) : Type 0 where
+-- A merge of m cells from a on and n from b on that has come to i and j; `count` have been built in so many turns.
+pub record RowMerge (l e r : Bool) (s₀ : List ℕ) (a m b n top : ℕ) (s : List ℕ) (i j to turns : ℕ) : Type 0 where
   pub below : RowsBelow s₀ a m b n top
   pub onLeft : (a ≤ i) × (i ≤ a + m)
   pub onRight : (b ≤ j) × (j ≤ b + n)
   pub count : ℕ
   pub countIs : to ≡ top + 1 + count
   pub few : count ≤ (i - a) + (j - b)
-  pub walking : Walking l e r s₀ a m b n top s (record { a = i; m = a + m - i; b = j; n = b + n - j; to = to; count = count })
+  pub turned : turns ≤ (i - a) + (j - b)
+  pub walking : Walking l e r s₀ a m b n top s (record { a = i; m = a + m - i; b = j; n = b + n - j; to = to; count = count; turns = turns })
 
--- The merge with which `merge_cells` goes on from w, whether it keeps cells of both sets or not.
+-- The merge with which `merge_cells` goes on from w, whether it keeps cells of both sets or not: each cell that has been passed is a turn.
 abbrev pub FrontsMerge : Bool → Bool → List ℕ → ℕ → ℕ → ℕ → ℕ → ℕ → List ℕ → Place → Type 0
-FrontsMerge l r s a m b n top s′ w = (e : Bool) → RowMerge l e r s a m b n top s′ (w .a) (w .b) (w .to)
+FrontsMerge l r s a m b n top s′ w = (e : Bool) → RowMerge l e r s a m b n top s′ (w .a) (w .b) (w .to) ((w .a - a) + (w .b - b))

@@ -60,10 +60,11 @@ module _ {s : List ℕ} {a m b n : ℕ} (h : TwoFronts s a m b n) where
   pub two-compared : {r : Rows} → ValuesCompared s a b r → Compared s a b (r .order) × EndsAt s a (r .a) × EndsAt s b (r .b)
   two-compared d =
       let first = front-value s (h .top) a m (h .first) (h .rest) (h .onLeft) in
-      let second = front-value s (h .top) b n (h .first′) (h .rest′) (h .onRight) in
-      (λ v w p q f g. d v w p q f g .order,
-      λ v p f. d v (h .first′) p second f (h .onRight .fits .0) .first,
-      λ w q g. d (h .first) w first q (h .onLeft .fits .0) g .second)
+      let second = front-value s (h .top) b n (h .first′) (h .rest′) (h .onRight) in (
+        λ v w p q f g. d v w p q f g .order,
+        λ v p f. d v (h .first′) p second f (h .onRight .fits .0) .first,
+        λ w q g. d (h .first) w first q (h .onLeft .fits .0) g .second,
+      )
 
 pub two-fronts : {s : List ℕ} {top a m b n : ℕ} {vs ws : Values} → Front s top a m vs → Front s top b n ws → 0 < m → 0 < n → TwoFronts s a m b n
 two-fronts {s} {top} {a} {m} {b} {n} =

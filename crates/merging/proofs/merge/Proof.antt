@@ -1,6 +1,6 @@
 -- `merge`: rows of cells are merged by cells, other sets are walked.
 use Rattle.sets.proofs.Base.{needs, ℕ, _+_, List}
-use Rattle.merging.proofs.Terms.{RunsMerge, Merges}
+use Rattle.merging.proofs.Terms.{Pass, RunsMerge, Merges}
 use Rattle.arena.proofs.FrontLaws.{front-start}
 use Rattle.sets.proofs.TurnLaws.{two-runs, two-rows}
 use Rattle.merging.proofs.merge.Statement.{statement}
@@ -20,10 +20,10 @@ abbrev listed : tie.After-of-cells → tie.After-low2
 listed o = o .before .before
 
 -- What is built of the runs of members is built of the sets.
-of-sets : (l : tie.After-low2) (s′ : List ℕ) (k : ℕ) → let q = lent l .args in
-    RunsMerge (q .left) (q .both) (q .right) (q .s .now) (q .a + 1) (first l .low .result) (q .b + 1) (l .low2 .result) (q .top) s′ k →
-    Merges (q .left) (q .both) (q .right) (q .s .now) (q .a) (q .b) (q .top) s′ k
-of-sets l s′ k e vs ws h d = e vs ws (front-start _ _ _ vs h _ (first l .low .ensures .0)) (front-start _ _ _ ws d _ (l .low2 .ensures .0))
+of-sets : (l : tie.After-low2) (s′ : List ℕ) (p : Pass) → let q = lent l .args in
+    RunsMerge (q .left) (q .both) (q .right) (q .s .now) (q .a + 1) (first l .low .result) (q .b + 1) (l .low2 .result) (q .top) s′ p →
+    Merges (q .left) (q .both) (q .right) (q .s .now) (q .a) (q .b) (q .top) s′ p
+of-sets l s′ p e vs ws h d = e vs ws (front-start _ _ _ vs h _ (first l .low .ensures .0)) (front-start _ _ _ ws d _ (l .low2 .ensures .0))
 
 pub merge-spec : {M : Type 1} → statement M
 merge-spec =

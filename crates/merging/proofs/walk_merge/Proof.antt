@@ -1,8 +1,8 @@
--- `walk_merge`: the walk goes on while both runs have members left and what is built is not too heavy.
+-- `walk_merge`: the walk goes on while both runs have members left and what is built is not too heavy; what is left then is only counted.
 use Rattle.sets.proofs.Base.{_+_, _<_, _⊎_, inl, inr, _≡_, needs, ltb-true, ltb-false, leb-true, leb-false, arith}
 use Rattle.merging.proofs.Terms.{Walking}
 use Rattle.rules.proofs.Basics.{absurd01}
-use Rattle.merging.proofs.BuildLaws.{walking-start, walking-step, walking-next, walking-end, walking-made}
+use Rattle.merging.proofs.BuildLaws.{walking-start, walking-step, walking-next, walking-left, walking-all-few, walking-end, walking-made}
 use Rattle.merging.proofs.walk_merge.Statement.{statement}
 use Rattle.merging.proofs.walk_merge.Tie as tie
 
@@ -38,6 +38,16 @@ over j =
           elim y [ inl x ↦ inr (inl (omega (arith, ltb-false 0 (ended j .loop .w .n) (x .2 .left)))) | inr x ↦ inl (omega (arith, x .left)) ]
     ]
 
+-- The comparisons of what is left are counted; then the set is finished.
+abbrev counted : tie.After-comparisons Inv-loop μ-loop → tie.Joined1 Inv-loop μ-loop
+counted d = d .before .before
+
+abbrev finished : tie.After-finish Inv-loop μ-loop → tie.After-comparisons Inv-loop μ-loop
+finished f = f .before .before
+
+abbrev done : tie.After-struct-known4 Inv-loop μ-loop → tie.After-finish Inv-loop μ-loop
+done c = c .before .before .before
+
 pub walk-merge-spec : {M : Type 1} → statement M
 walk-merge-spec =
     tie.close
@@ -55,8 +65,14 @@ walk-merge-spec =
     (λ c. let d = c .before .before in
     let l = turn (d .before .before) in
     walking-next (l .loop .inv) (lent l .pre .runs) (lent l .pre .room) (d .step .ensures))
-    (λ c κs. let j = c .before in
+    (λ c κs. let l = ended (c .before) in walking-left (l .loop .inv) (lent l .pre .runs) (lent l .pre .room))
+    (λ c κs. let j = counted (c .before) in
     let l = ended j in
     walking-end (l .loop .inv) (lent l .pre .runs) (lent l .pre .room) (over j) (λ e. absurd01 (cc e)))
+    (λ c. let d = finished (done c) in
+    let l = ended (counted d) in
+    omega (arith, walking-all-few (l .loop .inv) (lent l .pre .runs) (lent l .pre .room) (d .comparisons .ensures)))
     (λ c. search needs)
-    (λ c. let d = c .before .before in walking-made (ended (d .before .before) .loop .inv) (d .finish .ensures)))
+    (λ c. let f = done c in
+    let d = finished f in
+    walking-made (ended (counted d) .loop .inv) (f .finish .ensures) (d .comparisons .ensures)))
