@@ -5,6 +5,7 @@ use lib.Signed.{mag}
 use Rattle.operations.proofs.Terms.{whole, Value, set, Values, int, weight, Pattern, t̂, û, P̂, _×̂_, numᵖ, twoRule, Two, pairing, union, inter, diff, product, apply, plus, minus, interval, two, Given, gives, lacks, twoValue, cellSize, excess, code, CellsFit, SomeSet, SomeValue, Same, SomeRelation, Applies, ImageAt, FitTwo, Outcome, Within, Cell, Lacks, Sizes, GoodAt, weighed, twoGiven, ended, Gives, Operands, TwoReady, TwoDone, TwoOf, MergeDone, sumKind, Shifted, NumberDone}
 use Rattle.arena.proofs.Standing.{same-refl}
 use Rattle.merging.specs.Walks.{Merges}
+use Rattle.merging.specs.declared.Pass.{Pass}
 use Rattle.products.specs.Growing.{PutsPair, Intervals, Multiplies}
 use Rattle.operations.proofs.GoodLaws.{good-value, good-above, good-whole, good-inside}
 use Rattle.operations.proofs.OutcomeLaws.{Makes, makes-frame, makes-gives}
@@ -71,12 +72,13 @@ module _ {s s′ : List ℕ} {a b top end : ℕ} {o : Outcome} (p : Operands s a
   product-done f e m z =
       two-made product f e end p (λ gs v w small h k. two-sets small h k (λ x y. Makes top s s′ end (twoValue product x y)) û f e m) z
 
-  pub merge-done : {l c r t : Bool} → FitTwo (P̂ t̂ ∷ P̂ t̂ ∷ []) s a b t → not t ≡ false → Merges l c r s a b top s′ end → o ≡ ended end →
-      MergeDone l c r s a b top s′ o
-  merge-done {t = t} f e m z j i =
-      two-made j (subst (λ (ps : List Pattern). FitTwo ps s a b t) (sym (i .takes)) f) e end p
-      (λ gs v w small h k. two-sets small h k (λ x y. Makes top s s′ end (twoValue j x y)) t̂ f e
-      (λ vs ws x y. subst (λ (g : Given). Makes top s s′ end g) (sym (i .merges vs ws (x .fine) (y .fine))) (m vs ws x y))) z
+-- A merge, whose count of comparisons is not asked for.
+pub merge-done : {s s′ : List ℕ} {a b top : ℕ} {o : Outcome} {l c r t : Bool} {q : Pass} → Operands s a b top → FitTwo (P̂ t̂ ∷ P̂ t̂ ∷ []) s a b t →
+    not t ≡ false → Merges l c r s a b top s′ q → o ≡ ended (q .end) → MergeDone l c r s a b top s′ o
+merge-done {s} {s′} {a} {b} {top} {t = t} {q = q} p f e m z j i =
+    two-made j (subst (λ (ps : List Pattern). FitTwo ps s a b t) (sym (i .takes)) f) e (q .end) p
+    (λ gs v w small h k. two-sets small h k (λ x y. Makes top s s′ (q .end) (twoValue j x y)) t̂ f e
+    (λ vs ws x y. subst (λ (g : Given). Makes top s s′ (q .end) g) (sym (i .merges vs ws (x .fine) (y .fine))) (m vs ws x y .made))) z
 
 pub merge-unlike : {s : List ℕ} {a b top : ℕ} {l c r t : Bool} → FitTwo (P̂ t̂ ∷ P̂ t̂ ∷ []) s a b t → not t ≡ true → MergeDone l c r s a b top s (Lacks 15)
 merge-unlike {s} {a} {b = b} {t = t} f e j i = two-unlike j (subst (λ (ps : List Pattern). FitTwo ps s a b t) (sym (i .takes)) f) e
