@@ -9,7 +9,7 @@ pub use native.Mathlib.Nat.{add-zero}
 pub use native.Mathlib.Decide.{decLt, ℕ-discrete}
 pub use borrow.Author.Tests.{eq-eqb, le-ltb, lt-ltb, ne-eqb}
 pub use borrow.Author.Needs.{needs}
-pub use lib.Dec.{T, eqb, leb→le, ltb}
+pub use lib.Dec.{T, eqb, leb→le, le→leb, ltb}
 pub use lib.IntN.{negsuc, pos, ℤ}
 pub use lib.Signed.{mag}
 pub use lib.ListN.{List·getD-append, drop, getD, length, length-append, length-set, set as setAt}

@@ -1,5 +1,5 @@
 -- The cells of a value: how many they are, and that they tell the value.
-use Rattle.arena.proofs.Base.{ℕ, suc, _+_, _*_, _-_, _≤_, _<_, cond, true, false, List, [], _∷_, _++_, append-assoc, append-nil, _≡_, refl, sym, ap, _∙_, arith, decLt, eqb, ltb, leb→le, ℤ, pos, negsuc, mag, length, getD, drop, length-append, lt-ltb, le-ltb, _/_, _%_}
+use Rattle.arena.proofs.Base.{ℕ, suc, _+_, _*_, _-_, _≤_, _<_, cond, true, false, List, [], _∷_, _++_, append-assoc, append-nil, _≡_, refl, sym, ap, _∙_, arith, decLt, eqb, ltb, leb→le, le→leb, ℤ, pos, negsuc, mag, length, getD, drop, length-append, lt-ltb, le-ltb, _/_, _%_}
 use Rattle.rules.specs.Types.{whole}
 use Rattle.rules.specs.Values.{Scalar, num, truth, element, Value, scalar, pair, set, Values, none, _▸_, scalarTag, scalarPayload, count, weight, weights}
 use Rattle.laws.proofs.OrderLaws.{Small, Smalls, scalar-eq}
@@ -74,6 +74,19 @@ mutual
   pub encodables-fit : (vs : Values) → Encodables vs → AllFit vs
   encodables-fit none h = tt
   encodables-fit (v ▸ vs) h = (encodable-fits v (h .0), encodables-fit vs (h .1))
+
+-- And the other way round.
+mutual
+  pub fits-encodable : (v : Value) → CellsFit v → Encodable v
+  fits-encodable (scalar (num n i)) h = le→leb (mag i) 2147483647 (h .1)
+  fits-encodable (scalar (truth b)) h = tt
+  fits-encodable (scalar (element g k)) h = h
+  fits-encodable (pair v w) h = (fits-encodable v (h .0), fits-encodable w (h .1))
+  fits-encodable (set s) h = (h .0, fit-encodables s (h .1))
+
+  pub fit-encodables : (vs : Values) → AllFit vs → Encodables vs
+  fit-encodables none h = tt
+  fit-encodables (v ▸ vs) h = (fits-encodable v (h .0), fit-encodables vs (h .1))
 
 -- Cells tell the value, whatever follows them.
 scalar-cells : (s r : Scalar) → ScalarFits s → ScalarFits r → scalarTag s * cellSize + scalarLow s ≡ scalarTag r * cellSize + scalarLow r → s ≡ r

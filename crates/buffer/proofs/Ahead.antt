@@ -62,7 +62,7 @@ split (suc n) (v ▸ vs) h =
     record { front = v ▸ s .front; back = s .back; whole = ap (λ (w : Values). v ▸ w) (s .whole); counted = omega (arith, s .counted) }
 
 -- A value's first cell as a number.
-abbrev firstOf : Value → ℕ
+abbrev pub firstOf : Value → ℕ
 firstOf v = tag v * cellSize + twos (payload v)
 
 cells-inner : (v : Value) → cells v ≡ cell v ++ cellsOf (inner v)
@@ -84,7 +84,7 @@ other-code : (t p : ℕ) → p < cellSize → 1 < t → t * cellSize + p ≡ are
 unfolding arenaCell
 other-code t p h n = rw (ne-eqb ((t * cellSize + p) / cellSize) 1 (λ e. omega arith))
 
-head-coded : (v : Value) → Encodable v → ownCell v ≡ arenaCell (firstOf v)
+pub head-coded : (v : Value) → Encodable v → ownCell v ≡ arenaCell (firstOf v)
 unfolding twos
 head-coded (scalar (num whole i)) h = number-code i h
 head-coded (scalar (truth true)) h = other-code 2 1 (omega arith) (omega arith)

@@ -5,7 +5,7 @@ use mathlib.Core.Logic.{_↔_, Iff·rfl}
 use mathlib.Core.List.{List}
 use mathlib.Core.Path.{_≡_, refl, sym, ap, _∙_}
 use native.Mathlib.Omega.{arith}
-use native.Mathlib.Decide.{decLt}
+use native.Mathlib.Decide.{decLt, ℕ-discrete}
 use native.Mathlib.Nat.{add-zero}
 use lib.Dec.{T, eqb, leb}
 use lib.ListN.{length, getD, drop, length-drop}
@@ -90,3 +90,14 @@ code-number x t l e f g = rw (eq-eqb (x / 4294967296) 1 (sym e ∙ f), g)
 pub code-other : (x t : ℕ) → t ≡ x / 4294967296 → (t ≡ 1 → ⊥) → x ≡ arenaCell x
 unfolding arenaCell
 code-other x t e n = rw (ne-eqb (x / 4294967296) 1 (λ f. n (e ∙ f)))
+
+-- So numbers go from one form to the other and back.
+pub arenaCell-twice : (x : ℕ) → arenaCell (arenaCell x) ≡ x
+arenaCell-twice x = go (ℕ-discrete (x / 4294967296) 1)
+  where
+    y : ℕ
+    y = 4294967296 + (x % 4294967296 + 2147483648) % 4294967296
+
+    go : Dec (x / 4294967296 ≡ 1) → arenaCell (arenaCell x) ≡ x
+    go (yes e) = ap arenaCell (sym (code-number x _ _ refl e refl)) ∙ sym (code-number y _ _ refl (omega arith) refl) ∙ omega arith
+    go (no n) = let e = sym (code-other x _ refl n) in ap arenaCell e ∙ e

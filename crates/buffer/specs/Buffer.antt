@@ -24,7 +24,7 @@ cellFirst bs = leb 8 (length bs) && eqb (getD bs 5 0 + getD bs 6 0 + getD bs 7 0
 abbrev pub firstCell : List ℕ → ℕ
 firstCell bs = getD bs 4 0 * cellSize + wordAt bs 0
 
--- The arena's cell for a cell of the buffer.
+-- The arena's cell for a cell of the buffer, and the buffer's for one of the arena: it is its own inverse.
 unfoldable pub arenaCell : ℕ → ℕ
 arenaCell x = cond (eqb (x / 4294967296) 1) (4294967296 + (x % 4294967296 + 2147483648) % 4294967296) x
 

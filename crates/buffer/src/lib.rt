@@ -79,8 +79,8 @@ impl Cursor {
     }
 }
 
-// The arena's cell for a cell of the buffer: numbers go from two's complement to excess form.
-fn code_cell(cell: u64) -> u64
+// The arena's cell for a cell of the buffer, or the buffer's for one of the arena: numbers go from two's complement to excess form, or back.
+pub fn code_cell(cell: u64) -> u64
     ensures { λ r. ⌜ r ≡ arenaCell cell ⌝ }
 {
     if arena::tag(cell) == arena::NUMBER_TAG {

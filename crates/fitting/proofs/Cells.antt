@@ -82,7 +82,7 @@ scalar-low (num whole i) = omega arith
 scalar-low (truth b) = omega arith
 scalar-low (element g k) = omega arith
 
-tag-most : (v : Value) → tag v ≤ 5
+pub tag-most : (v : Value) → tag v ≤ 5
 tag-most (scalar x) = omega (arith, scalar-low x)
 tag-most (pair v w) = omega arith
 tag-most (set vs) = omega arith

@@ -1,0 +1,2 @@
+-- Values written in the form of the values buffer.
+pub mod Written
