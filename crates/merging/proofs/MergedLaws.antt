@@ -1,6 +1,6 @@
 -- Merging rising lists is union, intersection and difference: those of the rules (`union-merged`, `inter-merged`, `diff-merged`).
 use Rattle.sets.proofs.Base.{Ordering, Ordering·lt, Ordering·eq, Ordering·gt, Bool, true, false, cond, not, List, [], _∷_, _++_, _≡_, refl, sym, ap, _∙_, subst}
-use Rattle.merging.proofs.Terms.{placed, Value, order, set, Values, members, keptValue, insert, rising, isIn, keep, setOf, twoValue, turned, merged, union, inter, diff, gives, FineSet}
+use Rattle.merging.proofs.Terms.{placed, Value, order, set, Values, none, _▸_, members, values, AllFit, CellsFit, keptValue, insert, rising, isIn, keep, setOf, twoValue, turned, merged, union, inter, diff, gives, FineSet}
 use Rattle.laws.proofs.OrderLaws.{Small, flip, order-flip, order-eq, before-order, order-before}
 use Rattle.laws.proofs.SetOrder.{All, Before, Rising, kept-all}
 use Rattle.arena.proofs.FrontLaws.{rises-rising, fit-small}
@@ -35,6 +35,18 @@ merged-all P l b r (v ∷ vs) (w ∷ ws) h k =
       | Ordering·eq ↦ kept-all P b v _ (h .0) (merged-all P l b r vs ws (h .1) (k .1))
       | Ordering·gt ↦ kept-all P r w _ (k .0) (merged-all P l b r (v ∷ vs) ws h (k .1))
     ]
+
+fit-all : (vs : Values) → AllFit vs → All CellsFit (members vs)
+fit-all none h = tt
+fit-all (v ▸ vs) h = (h .0, fit-all vs (h .1))
+
+all-fit : (vs : List Value) → All CellsFit vs → AllFit (values vs)
+all-fit [] h = tt
+all-fit (v ∷ vs) h = (h .0, all-fit vs (h .1))
+
+-- The cells of what is merged fit.
+pub merged-fits : (l b r : Bool) (vs ws : Values) → AllFit vs → AllFit ws → AllFit (values (merged l b r (members vs) (members ws)))
+merged-fits l b r vs ws h k = all-fit (merged l b r (members vs) (members ws)) (merged-all CellsFit l b r (members vs) (members ws) (fit-all vs h) (fit-all ws k))
 
 -- Union.
 
@@ -75,7 +87,8 @@ unfolding rising
 rising-same [] h = refl
 rising-same (w ∷ ws) h = ap (insert w) (rising-same ws (h .1)) ∙ insert-first w ws (h .0)
 
-merged-union : (vs ws : List Value) → Rising vs → Rising ws → All Small vs → All Small ws →
+-- The merge of two rising lists is their rising union.
+pub merged-union : (vs ws : List Value) → Rising vs → Rising ws → All Small vs → All Small ws →
     merged true true true vs ws ≡ rising (vs ++ ws)
 unfolding rising merged
 merged-union [] ws h k s t = sym (rising-same ws k)

@@ -5,7 +5,7 @@ pub use Rattle.rules.specs.Operations.{keptValue, placed, setOf}
 pub use Rattle.rules.specs.Runs.{gives}
 pub use Rattle.rules.specs.Values.{Value, Values, _▸_, count, members, none, order, set, values, weight, weights}
 unfoldable pub use Rattle.arena.specs.Code.{code}
-pub use Rattle.arena.specs.Code.{Copied, EndsAt, FineSet, Front, Same, Stands, ValueAt, ValuesAt, codes}
+pub use Rattle.arena.specs.Code.{AllFit, CellsFit, Copied, EndsAt, FineSet, Front, Same, Stands, ValueAt, ValuesAt, codes}
 pub use Rattle.sets.specs.Fronts.{Cells, RunEnds, TurnAt, TwoRuns, firstOf, keepOf, restLeft, restRight}
 pub use Rattle.sets.specs.declared.Turn.{Turn}
 unfoldable pub use Rattle.rules.specs.Merges.{merged, comparisons}

@@ -3,13 +3,23 @@ use Rattle.operations.proofs.Base.{ℕ, _≤_, _<_, Bool, true, _&&_, L
 use Rattle.operations.proofs.Terms.{Value, scalar, pair, set, Values, none, _▸_, CellsFit, SomeAt, Rises, FineSet, SetBelow, ValueBelow, KnownFunction, Sizes, GoodAt, SomeGood, NewFirsts}
 use Rattle.rules.specs.Cells.{wellFormed, risingAll, precedes, good}
 use Rattle.rules.proofs.Basics.{and-split}
-use Rattle.laws.proofs.CellsLaws.{encodable-wellFormed, few-sizes, good-wellFormed, good-weight, good-typed, weight-some}
+use Rattle.rules.specs.Tables.{tableOf}
+use Rattle.rules.specs.Readable.{Readable}
+use Rattle.laws.proofs.TableLaws.{sizes-length}
+use Rattle.laws.proofs.CellsLaws.{size-below, encodable-wellFormed, few-sizes, good-wellFormed, good-weight, good-typed, weight-some}
 use Rattle.arena.proofs.CodeLaws.{length-code, encodable-fits}
 use Rattle.arena.proofs.EvenLaws.{typed-even}
 use Rattle.arena.proofs.ValueParts.{value-eq}
 use Rattle.sets.specs.Rows.{FineValue}
 use Rattle.fitting.specs.Agree.{TypedAt, SomeTyped}
 use Rattle.fitting.proofs.Cells.{typed-at}
+
+-- The sizes of a readable table are small.
+pub sizes-small : (bs : List ℕ) → Readable bs → Sizes (tableOf bs .sizes)
+sizes-small bs r = record {
+  few = omega (arith, sizes-length bs, r .header .givens);
+  small = size-below (tableOf bs .sizes) 32 (λ g h. r .records .sizes g h .1);
+}
 
 rising-rises : (gs : List ℕ) (s : Values) → T (risingAll gs s) → Rises s
 rising-rises gs none h = tt

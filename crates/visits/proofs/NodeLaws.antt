@@ -1,15 +1,9 @@
 -- The children of a node, its tree, what its evaluators pass on to theirs, and its answer from theirs.
 use Rattle.visits.proofs.Terms.{ℕ, zero, suc, _+_, _-_, _*_, _≤_, _<_, Bool, true, List, [], _∷_, Option, nothing, some, _≡_, refl, sym, ap, _∙_, subst, arith, T, length, getD, categoryOf, Field, isChild, Table, fieldsIf, pick, held, exprOf, FieldRight, FieldsRight, KindRight, NodeRight, FormedAs, FormedBounds, SettledAs, SettleReady, RefusalOf, StopOf}
-use Rattle.visits.proofs.Terms.{Value, Kind, Category, predicate, expression, unused, child, kindOf, fieldsOf, Node, Pred, Expr, tableOf, nodeAt, kindAt, fieldWords, predOf, predAt, exprAt, nodeCount, Readable, CategoryIs, Env, End, refused, Run, M, _>>_, visit, Given, holdsᵖ, valueᵉ, sizes-length, Same, stands-frame, same-refl, same-trans, length-code, built, Builds, Sizes, GoodAt, Gives, Outcome, Held, Refused, Formed, Placed, Stopped, Refusal, EndsWith, HeldAs, fieldA, fieldB, conditionCells, expressionCells, cellsFor, Binds, NodeReady, Visited, Asks, truthAt, valueAt, EvaluatesP, EvaluatesE, Settles, good, height, tallest, nodes-length, height-at, size-below, value-good, constants-frame}
+use Rattle.visits.proofs.Terms.{Value, Kind, Category, predicate, expression, unused, child, kindOf, fieldsOf, Node, Pred, Expr, tableOf, nodeAt, kindAt, fieldWords, predOf, predAt, exprAt, nodeCount, Readable, CategoryIs, Env, End, refused, Run, M, _>>_, visit, Given, holdsᵖ, valueᵉ, Same, stands-frame, same-refl, same-trans, length-code, built, Builds, GoodAt, Gives, Outcome, Held, Refused, Formed, Placed, Stopped, Refusal, EndsWith, HeldAs, fieldA, fieldB, conditionCells, expressionCells, cellsFor, Binds, NodeReady, Visited, Asks, truthAt, valueAt, EvaluatesP, EvaluatesE, Settles, good, height, tallest, nodes-length, height-at, value-good, constants-frame}
 use Rattle.laws.proofs.TableLaws.{tallest-kept}
+pub use Rattle.operations.proofs.GoodLaws.{sizes-small}
 use Rattle.visits.proofs.RunLaws.{visited, endOf}
-
--- The sizes of a readable table are small.
-pub sizes-small : (bs : List ℕ) → Readable bs → Sizes (tableOf bs .sizes)
-sizes-small bs r = record {
-  few = omega (arith, sizes-length bs, r .header .givens);
-  small = size-below (tableOf bs .sizes) 32 (λ g h. r .records .sizes g h .1);
-}
 
 -- What stands below `top` stays, and so below k.
 pub good-frame : {gs s s′ : List ℕ} {top at : ℕ} {v : Value} (k : ℕ) → Same top s s′ → top ≤ k → GoodAt gs s top at v → GoodAt gs s′ k at v

@@ -1,0 +1,2 @@
+-- The merge of two lent sets.
+pub mod Answers
