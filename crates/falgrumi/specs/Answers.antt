@@ -24,3 +24,29 @@ reportedConforms (refused r p) = 0
 pub record TellsReport (g : End Report) (r truth place steps conforms : ℕ) : Type 0 where
   pub run : TellsRun (reportedEnd g) (reportedSteps g) r truth place steps
   pub conform : conforms ≡ reportedConforms g
+
+-- A merge as one end: values that do not fit are 15, a union that is too heavy is 18, as at a node.
+abbrev pub mergeEnd : End Union → End (Unit {0})
+mergeEnd (refused r p) = refused r p
+mergeEnd (done (unites n v)) = done tt
+mergeEnd (done (heavy n)) = refused 18 0
+mergeEnd (done unfit) = refused 15 0
+
+abbrev pub mergeComparisons : End Union → ℕ
+mergeComparisons (refused r p) = 0
+mergeComparisons (done (unites n v)) = n
+mergeComparisons (done (heavy n)) = n
+mergeComparisons (done unfit) = 0
+
+-- The bytes of the union's cells.
+abbrev pub mergeBytes : End Union → ℕ
+mergeBytes (refused r p) = 0
+mergeBytes (done (unites n v)) = 8 * weight v
+mergeBytes (done (heavy n)) = 0
+mergeBytes (done unfit) = 0
+
+-- What is told of a merge, and what stands at `comparisons` and `bytes`.
+pub record TellsMerge (e : End Union) (r place comparisons bytes : ℕ) : Type 0 where
+  pub ended : TellsEnd (mergeEnd e) r place
+  pub compared : comparisons ≡ mergeComparisons e
+  pub length : bytes ≡ mergeBytes e

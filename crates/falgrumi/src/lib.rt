@@ -6,6 +6,7 @@ use reading::Refusal;
 use reports::Ending;
 use reports::Evaluation;
 use reports::Truth;
+use unions::MergeAnswer;
 ghost use mathlib.Core.Path.{_≡_};
 ghost use lib.ListN.{length};
 ghost use Rattle.rules.specs.Values.{bit};
@@ -14,11 +15,13 @@ ghost use Rattle.rules.specs.Readable.{Readable};
 ghost use Rattle.rules.specs.Verdict.{sheetAfter};
 ghost use Rattle.typing.specs.Model.{verdict};
 ghost use Rattle.rules.specs.Evaluation.{evaluation};
+ghost use Rattle.rules.specs.Merges.{unionIn};
 ghost use Rattle.reading.specs.Answers.{rootHeight};
 ghost use Rattle.conforms.specs.Conforming.{conforming};
 ghost use Rattle.falgrumi.specs.Guarantee.{checkedEvaluation, guardedOf};
 ghost use Rattle.reports.specs.Told.{TellsEnd, TellsRun};
-ghost use Rattle.falgrumi.specs.Answers.{TellsReport};
+ghost use Rattle.unions.specs.Answers.{cellsAfter};
+ghost use Rattle.falgrumi.specs.Answers.{TellsReport, TellsMerge};
 
 // Check: the refusal's number, 0 where the table is accepted; its place goes to `place`.
 #[no_mangle]
@@ -147,6 +150,48 @@ pub extern "C" fn falgrumi_checked_evaluate(
             *conforms = bool_byte(g.conforms);
             let e = g.evaluation;
             reports::tell(e, truth, place, steps)
+        }
+    }
+}
+
+// The values of the two lowest free identifiers, merged: the refusal's number, 15 where they are not sets of one type, 18 where their union
+// would weigh over 256, else 0. Its place goes to `place`, the comparisons of the whole merge to `comparisons`, the bytes of the union to `bytes`,
+// and its cells to the front of `cells` if they fit there.
+#[no_mangle]
+pub extern "C" fn falgrumi_merge(
+    table: &[u8],
+    values: &[u8],
+    cells: &mut [u8],
+    place: &mut u64,
+    comparisons: &mut u64,
+    bytes: &mut u64,
+) -> u8
+    ensures { λ r. ⌜
+        TellsMerge (unionIn (now (table .entry)) (now (values .entry))) r (now (place .exit)) (now (comparisons .exit)) (now (bytes .exit)) ×
+        (now (cells .exit) ≡ cellsAfter (unionIn (now (table .entry)) (now (values .entry))) (now (cells .entry)))
+        ⌝ }
+{
+    let answer = unions::merge_values(table, values, cells);
+    *place = 0;
+    *comparisons = 0;
+    *bytes = 0;
+    match answer {
+        MergeAnswer::Refused(r) => {
+            *place = r.place as u64;
+            reports::number_byte(r.number)
+        }
+        MergeAnswer::Unfit => 15,
+        MergeAnswer::Heavy(n) => {
+            *comparisons = n;
+            18
+        }
+        MergeAnswer::United {
+            comparisons: n,
+            bytes: length,
+        } => {
+            *comparisons = n;
+            *bytes = length as u64;
+            0
         }
     }
 }

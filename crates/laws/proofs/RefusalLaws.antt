@@ -17,6 +17,7 @@ use Rattle.rules.specs.Kinds.{Two, pairing, union, inter, diff, product, apply,
 use Rattle.rules.specs.Rules.{Rule, testRule, oneRule, twoRule, quantRule, comprehensionRule}
 use Rattle.rules.specs.Fits.{fits}
 use Rattle.rules.specs.Tables.{Table, identifierCount, nodeCount, Pred, conditionOf}
+use Rattle.rules.specs.Ends as ends
 use Rattle.rules.specs.Ends.{End, done, refused, require}
 use Rattle.rules.specs.Reading.{reading}
 use Rattle.rules.specs.Readable.{Records}
@@ -24,6 +25,7 @@ use Rattle.rules.specs.Cells.{inRange, weightLimit, noValue, Read, value, good,
 use Rattle.rules.specs.Runs.{Trace, Run, M, goOn, _>>=_, _>>_, demand, counted, visit, emit, form, _orElse_, Given, gives, lacks}
 use Rattle.rules.specs.Operations.{Env, _with_≔_, decides, elems, setOf, least, applied, ranged, leafValue, oneValue, twoValue}
 use Rattle.rules.specs.Evaluation.{fitting, quantify, select, holdsᵖ, valueᵉ, holdsᶜ, run, evaluation}
+use Rattle.rules.specs.Merges.{freeValues, firstTwo, unionIn}
 use Rattle.rules.specs.Refusals.{PlaceInRange, RefusesOnly}
 use Rattle.rules.specs.Safety.{EndsSafely}
 use Rattle.rules.specs.Verdict.{Place, Verdict, unreadable, misfit, clash, several, heavy, accepts}
@@ -275,6 +277,24 @@ evaluation-refuses bs buffer budget = read (reading bs) refl
     read (refused r p) e =
         let h : (1 ≤ r) × (r ≤ 9) × PlaceInRange bs r p = rw e at (reading-refuses bs) in
         (omega arith, (inl (h .0, h .1), h .2, λ _. refl, λ q. absurd (omega arith)))
+
+-- The merge of two lent sets: 1 to 9 and 14.
+abbrev pub UnionRefusal : List ℕ → ℕ → ℕ → Type 0
+UnionRefusal bs r p = (((1 ≤ r) × (r ≤ 9)) ⊎ (r ≡ 14)) × PlaceInRange bs r p
+
+pub union-refuses : (bs buffer : List ℕ) → RefusesOnly (UnionRefusal bs) (unionIn bs buffer)
+unfolding unionIn
+union-refuses bs buffer = read (reading bs) refl
+  where
+    load : (tb : Table) → reading bs ≡ done tb → (o : End (List Value)) → RefusesOnly (FaultFrom 0 (tb .binds)) o →
+        RefusesOnly (UnionRefusal bs) (ends._>>=_ o (λ vs. done (firstTwo (freeValues (tb .binds) vs))))
+    load tb e (done vs) h = tt
+    load tb e (refused r p) (f, h) = let n = identifiers-read bs e in (inr f, rw f (omega arith))
+
+    read : (o : End Table) → reading bs ≡ o →
+        RefusesOnly (UnionRefusal bs) (ends._>>=_ o (λ tb. ends._>>=_ (valuesIn tb buffer) (λ vs. done (firstTwo (freeValues (tb .binds) vs)))))
+    read (done tb) e = load tb e (valuesIn tb buffer) (valuesIn-refuses tb buffer)
+    read (refused r p) e = let h : (1 ≤ r) × (r ≤ 9) × PlaceInRange bs r p = rw e at (reading-refuses bs) in (inl (h .0, h .1), h .2)
 
 -- On a readable table 14 to 19 are left.
 pub readable-refuses : (bs buffer : List ℕ) (budget : ℕ) (tb : Table) → reading bs ≡ done tb →

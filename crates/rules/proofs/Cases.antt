@@ -12,8 +12,9 @@ use Rattle.rules.specs.Tables.{Node, Table}
 use Rattle.rules.specs.Ends.{End, done, refused}
 use Rattle.rules.specs.Evaluation.{run, evaluation}
 use Rattle.rules.specs.Safety.{All}
-use Rattle.rules.specs.Values.{pair}
+use Rattle.rules.specs.Values.{Value, pair}
 use Rattle.rules.specs.Operations.{isFunction}
+use Rattle.rules.specs.Merges.{merged, united, comparisons}
 use Rattle.rules.proofs.Rows.{toBytes, node₃, node₂, node₁, node, table, closed, noClauses, wordsOf, p1, p1-words, unionAtOne}
 use Rattle.rules.proofs.Rows.{element1, sheet, z, pz, integer, setWith}
 
@@ -428,6 +429,24 @@ application-right = (refl, (refl, (refl, (refl, (refl, (refl, (refl, (refl, (ref
 pub order-right : All EndsAsTold orderCases
 unfolding evaluation
 order-right = (refl, (refl, (refl, (refl, (refl, (refl, (refl, (refl, (refl, tt)))))))))
+
+-- N12: two lists of integers, what they are merged into, and the comparisons. One with itself: equal fronts are one comparison; in turns; all of one
+-- before the other: the rest takes none; one in common; with the empty list.
+abbrev integers : List ℕ → List Value
+integers xs = map integer xs
+
+pub merges-right :
+    (united (integers (1 ∷ 2 ∷ 3 ∷ [])) (integers (1 ∷ 2 ∷ 3 ∷ [])) ≡ integers (1 ∷ 2 ∷ 3 ∷ [])) ×
+    (comparisons (integers (1 ∷ 2 ∷ 3 ∷ [])) (integers (1 ∷ 2 ∷ 3 ∷ [])) ≡ 3) ×
+    (united (integers (1 ∷ 3 ∷ 5 ∷ [])) (integers (2 ∷ 4 ∷ 6 ∷ [])) ≡ integers (1 ∷ 2 ∷ 3 ∷ 4 ∷ 5 ∷ 6 ∷ [])) ×
+    (comparisons (integers (1 ∷ 3 ∷ 5 ∷ [])) (integers (2 ∷ 4 ∷ 6 ∷ [])) ≡ 5) ×
+    (comparisons (integers (1 ∷ [])) (integers (2 ∷ 3 ∷ 4 ∷ [])) ≡ 1) ×
+    (comparisons (integers (2 ∷ 3 ∷ 4 ∷ [])) (integers (1 ∷ [])) ≡ 1) ×
+    (united (integers (1 ∷ 2 ∷ [])) (integers (2 ∷ 3 ∷ [])) ≡ integers (1 ∷ 2 ∷ 3 ∷ [])) ×
+    (comparisons (integers (1 ∷ 2 ∷ [])) (integers (2 ∷ 3 ∷ [])) ≡ 2) ×
+    (comparisons (integers (1 ∷ 2 ∷ [])) [] ≡ 0) × (comparisons [] (integers (1 ∷ 2 ∷ [])) ≡ 0)
+unfolding merged comparisons
+merges-right = (refl, refl, refl, refl, refl, refl, refl, refl, refl, refl)
 
 -- `isFunction` does not rely on the order of the members: here the pairs that share a first part are no neighbours.
 pub apart-no-function :

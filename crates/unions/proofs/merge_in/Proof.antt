@@ -24,7 +24,7 @@ abbrev passed : tie.After-known-told2 → tie.After-env
 passed k = k .before .before .before
 
 abbrev merged : tie.After-slice-known5 → tie.After-merge-loaded
-merged c = c .before .before .before .before
+merged c = let s = c .before .before in s .before .before
 
 pub merge-in-spec : {M : Type 1} → statement M
 merge-in-spec =

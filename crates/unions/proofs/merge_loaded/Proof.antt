@@ -25,7 +25,7 @@ abbrev placed : tie.After-unite-arg2 → tie.After-wide2
 placed c = c .before .before
 
 abbrev united : tie.After-slice-known4 → tie.After-unite
-united c = c .before .before .before .before
+united c = let s = c .before .before in s .before .before
 
 -- At most 32 identifiers.
 few : (x : tie.After-next-free) → x .next-free .result ≤ 32

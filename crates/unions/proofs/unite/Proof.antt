@@ -9,16 +9,19 @@ use Rattle.unions.proofs.unite.Tie as tie
 
 -- The values have been tested; then they are merged; then the union is light, and is written.
 abbrev lent : tie.After-alike-sets → tie.Start
-lent t = t .before .before .before .before
+lent t = let k = t .before .before in k .before .before
 
 abbrev tested : tie.After-merge → tie.Else1
 tested m = m .before .before
 
+abbrev known : tie.After-struct-known → tie.After-merge
+known c = c .before .before .before
+
 abbrev merged : tie.Then2 → tie.After-merge
-merged c = c .before .before .before .before
+merged c = known (c .before)
 
 abbrev light : tie.Else2 → tie.After-merge
-light l = l .before .before .before .before
+light l = known (l .before)
 
 abbrev written : tie.After-write-value-arg2 → tie.Else2
 written c = c .before .before
