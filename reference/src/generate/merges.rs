@@ -2,6 +2,7 @@
 //! identifiers have, where they stand, and what is refused before.
 
 use super::{buffers, damage, typed, unions, Condition, Generator, SMALL_NODES, SMALL_VALUES};
+use crate::batch::Case;
 use crate::build::Draft;
 use crate::kinds::Kind;
 use crate::random::Random;
@@ -9,6 +10,11 @@ use crate::table::MAX_HEIGHT;
 use crate::values::Value;
 
 impl Generator {
+    pub fn merge_case(&mut self) -> Case {
+        let (table, values) = self.merge_sample();
+        Case::Merge { table, values }
+    }
+
     /// A table and values for a merge. The numbers come from a stream of their
     /// own, so that the other samples of a seed stay as they are.
     pub fn merge_sample(&mut self) -> (Vec<u8>, Vec<u8>) {
@@ -78,13 +84,15 @@ fn layout(rng: &mut Random, values: Vec<Value>, small: bool) -> Condition {
     };
     let mut lent = Vec::new();
     let (mut free, mut bound) = (Vec::new(), Vec::new());
-    let most = match rng.below(3) {
-        0 => 0,
-        _ if small => 3,
-        _ => 6,
+    // With 24 quantifiers the condition is as high as may be.
+    let (most, chance) = match rng.below(6) {
+        0..=1 => (0, 0),
+        _ if small => (3, 35),
+        2 => (24, 80),
+        _ => (6, 35),
     };
     for value in values.into_iter().map(Some).chain([None]) {
-        while bound.len() < most && rng.chance(35) {
+        while bound.len() < most && rng.chance(chance) {
             bound.push(draft.identifier(1));
             lent.push(None);
         }
@@ -115,9 +123,14 @@ fn united(draft: &mut Draft, free: &[u32]) -> u32 {
     draft.two(Kind::Equal, both, s)
 }
 
-/// The body inside a quantifier for each bound identifier.
+/// The body inside a quantifier for each bound identifier. Many range over ∅,
+/// since an evaluation would hardly end otherwise.
 fn quantified(rng: &mut Random, draft: &mut Draft, bound: &[u32], body: u32) {
-    let ranges: Vec<u32> = bound.iter().map(|_| draft.leaf(Kind::BoolSet)).collect();
+    let range = match bound.len() {
+        0..=6 => Kind::BoolSet,
+        _ => Kind::Empty,
+    };
+    let ranges: Vec<u32> = bound.iter().map(|_| draft.leaf(range)).collect();
     let mut p = body;
     for (&x, &range) in bound.iter().zip(&ranges) {
         let kind = *rng.pick(&[Kind::ForAll, Kind::Exists]);

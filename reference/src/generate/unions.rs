@@ -9,17 +9,21 @@ use crate::values::{self, members_weight, Value, MAX_VALUE_WEIGHT};
 pub const SIZES: [u32; 2] = [32, 3];
 
 /// The forms of members; all members of one form share a type.
-const FORMS: usize = 12;
+const FORMS: usize = 13;
 
 /// Two sets that share a type.
 pub fn like(rng: &mut Random, small: bool) -> [Value; 2] {
+    if rng.chance(20) {
+        let turned = rising(groups::turned(rng));
+        return apart(rng, &turned).map(Value::Set);
+    }
     let form = rng.below(FORMS);
     let most = match (small, form) {
-        (true, 0..=2) => 10,
-        (true, _) => 4,
+        (true, 0..=3) => 10,
+        (true, _) => 3,
         (false, _) => *rng.pick(&[4, 12, 40]),
     };
-    let count = rng.below(most + 1);
+    let count = 2 + rng.below(most - 1);
     let members = rising((0..count).map(|_| member(rng, form)).collect());
     split(rng, &lightened(members)).map(Value::Set)
 }
@@ -34,32 +38,32 @@ fn member(rng: &mut Random, form: usize) -> Value {
     match form {
         0 => integer(rng),
         1 => Value::Truth(rng.chance(50)),
-        2 => element(rng),
-        3 => {
+        2 | 3 => element(rng, form - 2),
+        4 => {
             let first = integer(rng);
             values::pair(first, Value::Truth(rng.chance(50)))
         }
-        4 => {
-            let first = element(rng);
+        5 => {
+            let first = element(rng, 0);
             values::pair(first, few(rng))
         }
-        5 => {
+        6 => {
             let first = values::pair(few(rng), few(rng));
             values::pair(first, few(rng))
         }
         // Pairs with sets.
-        6 => {
+        7 => {
             let first = some_group(rng);
             values::pair(first, few(rng))
         }
-        7 => {
+        8 => {
             let first = few(rng);
             values::pair(first, groups::group(rng, 2))
         }
         // Sets: of equal counts, of any, and sets of such.
-        8 => groups::group(rng, 2),
-        9 => some_group(rng),
-        10 => Value::Set(vec![groups::group(rng, 2)]),
+        9 => groups::group(rng, 2),
+        10 => some_group(rng),
+        11 => Value::Set(vec![groups::group(rng, 2)]),
         _ => values::set(vec![some_group(rng), some_group(rng)]),
     }
 }
@@ -77,8 +81,8 @@ fn few(rng: &mut Random) -> Value {
     Value::Integer(rng.between(-1, 2))
 }
 
-fn element(rng: &mut Random) -> Value {
-    Value::Element(0, rng.below(SIZES[0] as usize) as u32)
+fn element(rng: &mut Random, g: usize) -> Value {
+    Value::Element(g as u32, rng.below(SIZES[g] as usize) as u32)
 }
 
 fn some_group(rng: &mut Random) -> Value {
@@ -211,33 +215,47 @@ fn about(rng: &mut Random, weight: u64) -> Vec<Value> {
 
 /// A rising list of members that have that weight together.
 fn weighing(rng: &mut Random, weight: usize) -> Vec<Value> {
-    let from = *rng.pick(&[i32::MIN, -200, 0, i32::MAX - 600]);
-    let integers = |count: usize| (0..count as i32).map(move |n| Value::Integer(from + n));
-    // 3a + 4b and 3a + 2b + c are the weight; b fills up what 3 leaves.
     match rng.below(3) {
-        0 => integers(weight).collect(),
-        1 => {
-            let b = weight % 3 + 3 * rng.below(5);
-            let count = b + (weight - 4 * b) / 3;
-            let mut short: Vec<bool> = (0..count).map(|i| i < b).collect();
-            short.rotate_right(rng.below(count));
-            let second = |one: bool| Value::Set(if one { vec![few(rng)] } else { Vec::new() });
-            let seconds: Vec<Value> = short.into_iter().map(second).collect();
-            let pairs = integers(count).zip(seconds);
-            pairs
-                .map(|(first, second)| values::pair(first, second))
-                .collect()
-        }
-        _ => {
-            let c = rng.below(2);
-            // 2b + c has the remainder that the weight has by 3.
-            let b = (2 * (weight - c)) % 3 + 3 * rng.below(4);
-            let mut found = two_each((weight - c - 2 * b) / 3);
-            found.extend(integers(b).map(|n| Value::Set(vec![n])));
-            found.extend((0..c).map(|_| Value::Set(Vec::new())));
-            rising(found)
-        }
+        0 => integers(rng, weight),
+        1 => pairs_weighing(rng, weight),
+        _ => sets_weighing(rng, weight),
     }
+}
+
+/// So many integers, one after the other.
+fn integers(rng: &mut Random, count: usize) -> Vec<Value> {
+    let from = *rng.pick(&[i32::MIN, -200, 0, i32::MAX - 600]);
+    let rising = (0..count as i32).map(|n| Value::Integer(from + n));
+    rising.collect()
+}
+
+/// (n,∅) of weight 3, and (n,{m}) of weight 4, which make up what 3 leaves.
+fn pairs_weighing(rng: &mut Random, weight: usize) -> Vec<Value> {
+    let longer = weight % 3 + 3 * rng.below(5);
+    let count = longer + (weight - 4 * longer) / 3;
+    let mut seconds = vec![Vec::new(); count];
+    for second in &mut seconds[..longer] {
+        second.push(few(rng));
+    }
+    seconds.rotate_right(rng.below(count));
+    let firsts = integers(rng, count).into_iter();
+    let pairs = firsts.zip(seconds);
+    pairs
+        .map(|(first, second)| values::pair(first, Value::Set(second)))
+        .collect()
+}
+
+/// Sets of two members, of weight 3. Sets of one, of weight 2, and at times the
+/// empty set make up what 3 leaves.
+fn sets_weighing(rng: &mut Random, weight: usize) -> Vec<Value> {
+    let empty = rng.below(2);
+    let rest = weight - empty;
+    let single = 2 * rest % 3 + 3 * rng.below(4);
+    let mut found = two_each((rest - 2 * single) / 3);
+    let singles = integers(rng, single).into_iter();
+    found.extend(singles.map(|n| Value::Set(vec![n])));
+    found.extend((0..empty).map(|_| Value::Set(Vec::new())));
+    rising(found)
 }
 
 /// So many sets of two integers.
