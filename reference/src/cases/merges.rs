@@ -240,7 +240,8 @@ fn by_turns(members: &[Cells], odd: usize) -> Vec<Cells> {
 /// Unions that weigh 256, and 257.
 fn limits() -> Vec<Answered> {
     let all = run(0, 255, 1);
-    // (n,0) for 85 numbers, and behind them (85,{0}): 3 cells each, and 4.
+    // (n,0) and (n,∅) for 85 numbers, 3 cells each; (84,{0}) has 4 and stands
+    // for the last.
     let plain: Vec<Cells> = (0..85).map(|n| pair(&number(n), &number(0))).collect();
     let open: Vec<Cells> = (0..85).map(|n| pair(&number(n), &set(&[]))).collect();
     let longer = pair(&number(84), &group(&[0]));
@@ -411,21 +412,24 @@ fn identifiers() -> Vec<Answered> {
     ]
 }
 
-/// x=y for sets x and y: refusals 1 to 9, also where the values are wrong.
+/// x=y for sets x and y.
+const SOUND: [u32; 23] = [
+    1, 1, 2, 3, 32, 36, 44, 92, 2, 0, 0, 20, 0, 0, 0, 20, 1, 0, 0, 6, 0, 1, 0,
+];
+
+/// Refused whether the values are right or missing.
+fn refused(table: Vec<u8>, answer: &str) -> Vec<Answered> {
+    let values: [&[&Cells]; 2] = [&[&group(&[1]), &group(&[2])], &[]];
+    values
+        .map(|values| case(table.clone(), values, format!("refused {answer}")))
+        .into()
+}
+
+/// Refusals 1 to 9.
 fn damaged() -> Vec<Answered> {
-    let (a, b) = (group(&[1]), group(&[2]));
-    let sound: [u32; 23] = [
-        1, 1, 2, 3, 32, 36, 44, 92, 2, 0, 0, 20, 0, 0, 0, 20, 1, 0, 0, 6, 0, 1, 0,
-    ];
-    let refused = |table: Vec<u8>, answer: &str| {
-        let answer = format!("refused {answer}");
-        vec![
-            case(table.clone(), &[&a, &b], answer.clone()),
-            case(table, &[], answer),
-        ]
-    };
+    let sound = bytes(&SOUND);
     let spoilt = |i: usize, word: u32, answer| {
-        let mut words = sound;
+        let mut words = SOUND;
         words[i] = word;
         refused(bytes(&words), answer)
     };
@@ -433,7 +437,7 @@ fn damaged() -> Vec<Answered> {
     negations.extend((2..28).map(|p| one(4, p)));
     [
         spoilt(0, 2, "1 0"),
-        refused(bytes(&sound)[..31].to_vec(), "1 0"),
+        refused(sound[..31].to_vec(), "1 0"),
         refused(Vec::new(), "1 0"),
         spoilt(1, 17, "2 0"),
         spoilt(2, 33, "2 0"),
@@ -442,8 +446,8 @@ fn damaged() -> Vec<Answered> {
         spoilt(5, 40, "3 0"),
         spoilt(6, 48, "3 0"),
         spoilt(7, 96, "3 0"),
-        refused(bytes(&sound)[..91].to_vec(), "3 0"),
-        refused([bytes(&sound), vec![0]].concat(), "3 0"),
+        refused(sound[..91].to_vec(), "3 0"),
+        refused([&sound[..], &[0]].concat(), "3 0"),
         spoilt(8, 0, "4 0"),
         spoilt(8, 33, "4 0"),
         spoilt(9, 2, "5 0"),

@@ -1,7 +1,7 @@
 //! Tables and values for merges, document 02, N12: what the two lowest free
 //! identifiers have, where they stand, and what is refused before.
 
-use super::{buffers, damage, typed, unions, Condition, Generator, SMALL_NODES, SMALL_VALUES};
+use super::{buffers, damage, typed, unions, Condition, Generator, SMALL_TABLE, SMALL_VALUES};
 use crate::batch::Case;
 use crate::build::Draft;
 use crate::kinds::Kind;
@@ -20,8 +20,7 @@ impl Generator {
     pub fn merge_sample(&mut self) -> (Vec<u8>, Vec<u8>) {
         loop {
             let (table, values) = sample(&mut self.merging, self.small);
-            let most = 32 + 4 * 8 + 16 * SMALL_NODES;
-            let is_small = table.len() <= most && values.len() <= SMALL_VALUES;
+            let is_small = table.len() <= SMALL_TABLE && values.len() <= SMALL_VALUES;
             if is_small || !self.small {
                 return (table, values);
             }

@@ -113,6 +113,7 @@ pub struct Generator {
 
 /// Limits of the small mode.
 const SMALL_NODES: usize = 14;
+const SMALL_TABLE: usize = 32 + 4 * 8 + 16 * SMALL_NODES;
 const SMALL_VALUES: usize = 12 * 8;
 const SMALL_INTERVAL: i64 = 12;
 const SMALL_STEPS: u32 = 200;
@@ -355,9 +356,8 @@ fn evaluating(sample: Sample) -> Case {
 }
 
 fn is_small(sample: &Sample) -> bool {
-    let most = 32 + 4 * 8 + 16 * SMALL_NODES;
     let many = table::read(&sample.table).is_ok_and(|table| table.nodes.len() > SMALL_NODES);
-    if many || sample.table.len() > most || sample.values.len() > SMALL_VALUES {
+    if many || sample.table.len() > SMALL_TABLE || sample.values.len() > SMALL_VALUES {
         return false;
     }
     let budget = sample.budget.min(SMALL_STEPS + 1);
