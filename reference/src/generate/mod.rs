@@ -4,9 +4,11 @@ mod boundary;
 mod buffers;
 mod damage;
 mod groups;
+mod merges;
 mod sized;
 mod templates;
 mod typed;
+mod unions;
 
 use crate::batch::Case;
 use crate::build::Draft;
@@ -100,6 +102,8 @@ impl Condition {
 
 pub struct Generator {
     rng: Random,
+    /// The numbers of the merges alone.
+    merging: Random,
     /// Only cases that a slow proof assistant can compute.
     small: bool,
     /// Only this class, if any.
@@ -118,6 +122,7 @@ impl Generator {
     pub fn new(seed: u64, small: bool, only: Option<Class>) -> Generator {
         Generator {
             rng: Random::new(seed),
+            merging: Random::new(!seed),
             small,
             only,
             made: 0,
