@@ -24,6 +24,10 @@ fn set(members: &[Vec<u8>]) -> Vec<u8> {
     [cell(5, members.len() as u32), members.concat()].concat()
 }
 
+fn single(member: &Vec<u8>) -> Vec<u8> {
+    set(std::slice::from_ref(member))
+}
+
 fn integers(members: impl IntoIterator<Item = i32>) -> Vec<u8> {
     set(&members.into_iter().map(integer).collect::<Vec<_>>())
 }
@@ -40,10 +44,7 @@ fn merged(comparisons: u64, cells: Vec<u8>) -> Merge {
 #[test]
 fn members_are_merged_front_to_front() {
     let of = |first: &[i32], second: &[i32]| {
-        merge_of(
-            &integers(first.iter().copied()),
-            &integers(second.iter().copied()),
-        )
+        merge_of(&integers(first.to_vec()), &integers(second.to_vec()))
     };
     let wanted = |comparisons, members: &[i32]| merged(comparisons, integers(members.to_vec()));
     // Equal fronts are one comparison, and are taken together.
@@ -62,11 +63,10 @@ fn members_are_merged_front_to_front() {
 /// Sets of sets and of pairs: what is compared are whole members, in the order of document 02, N6.
 #[test]
 fn members_of_any_type_are_merged() {
-    let group = |bins: [i32; 2]| integers(bins);
-    let (low, high) = (group([2, 3]), group([1, 4]));
+    let (low, high) = (integers([2, 3]), integers([1, 4]));
     assert_eq!(
-        merge_of(&set(&[high.clone()]), &set(&[low.clone()])),
-        merged(1, set(&[low.clone(), high.clone()]))
+        merge_of(&single(&high), &single(&low)),
+        merged(1, set(&[low.clone(), high]))
     );
     let pair = |m, n| [cell(4, 0), integer(m), integer(n)].concat();
     assert_eq!(
@@ -78,7 +78,7 @@ fn members_of_any_type_are_merged() {
     );
     // The empty set among the members has every type of a set.
     assert_eq!(
-        merge_of(&set(&[set(&[])]), &set(&[low.clone()])),
+        merge_of(&single(&set(&[])), &single(&low)),
         merged(1, set(&[set(&[]), low]))
     );
 }
@@ -122,7 +122,7 @@ fn what_has_no_union_is_unfit() {
         (&integer(1), &one),
         (&one, &integer(1)),
         (&integer(1), &integer(1)),
-        (&one, &set(&[one.clone()])),
+        (&one, &single(&one)),
     ] {
         assert_eq!(merge_of(first, second), Merge::Unfit);
     }
