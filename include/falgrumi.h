@@ -1,18 +1,20 @@
-/* Falgrumi: checks the types of a B condition, and evaluates it. The code behind these functions is proved to meet document 01.
+/* Falgrumi: checks the types of a B condition, evaluates it, and merges sets that it is given. The code behind these functions
+ * is proved to meet document 01, as document 02 changes it.
  *
- * Link target/staticlib/libfalgrumi.a, which `rt staticlib falgrumi` writes. examples/c/gate.c is a whole program.
+ * Link target/staticlib/libfalgrumi.a, which `rt staticlib falgrumi` writes. examples/c/gate.c and bins.c are whole programs.
  *
  * Pointers and lengths. Bytes are lent as a pointer and then their number. Every pointer must be valid and not NULL, for
- *   length 0 too (any object's address will do there: such a pointer is never read). `place` and `steps` must be aligned as
- *   their types are. What a function writes (the sheet, *truth, *place, *steps, *conforms) must not overlap anything else that
- *   is lent.
+ *   length 0 too (any object's address will do there: such a pointer is never read). `place`, `steps`, `comparisons` and
+ *   `bytes` must be aligned as their types are. What a function writes (the sheet, the cells, *truth, *place, *steps, *conforms,
+ *   *comparisons, *bytes) must not overlap anything else that is lent.
  * Lifetimes. A function keeps no pointer: all that is lent is the caller's again when the call returns.
- * Any bytes will do. Whatever the table, sheet and values hold, a call ends, stays inside what it was lent, and answers.
+ * Any bytes will do. Whatever the table, sheet, values and cells hold, a call ends, stays inside what it was lent, and answers.
  * Threads. Nothing is kept between calls, and there is no shared state: calls may run at the same time, if no one writes
  *   what another reads or writes.
  * Stack. The functions allocate nothing and work on the caller's stack. The most that was measured (x86-64; tall tables over
- *   deeply nested values, deep types, and generated ones) is 79 KB for falgrumi_check and 191 KB for falgrumi_evaluate, and
- *   falgrumi_checked_evaluate takes what the larger of its calls takes; lend 0.3 MB.
+ *   deeply nested values, deep types, and generated ones) is 79 KB for falgrumi_check and 191 KB for falgrumi_evaluate.
+ *   falgrumi_checked_evaluate takes what the larger of its calls takes, and falgrumi_merge less than falgrumi_evaluate: its
+ *   values lie in at most 8,707 cells of 8 bytes, 70 KB. Lend 0.3 MB.
  * Bytes. A word is 4 bytes, least byte first. */
 #ifndef FALGRUMI_H
 #define FALGRUMI_H
@@ -40,16 +42,18 @@ enum falgrumi_size {
     FALGRUMI_MAX_NODES = 512,
     FALGRUMI_MAX_HEIGHT = 27,
     FALGRUMI_MAX_VALUE_CELLS = 256,
+    FALGRUMI_MAX_VALUE_BYTES = 2048,
     /* No readable table, sheet or values buffer is longer than these. */
     FALGRUMI_MAX_TABLE_BYTES = 8416,
     FALGRUMI_MAX_SHEET_BYTES = 34816,
     FALGRUMI_MAX_VALUES_BYTES = 65536
 };
 
-/* The answers. Check gives 0 to 13, Evaluate 0 to 9 and 14 to 19, a checked evaluation 0 to 19. In brackets: what the place
- * counts; it is 0 where nothing is said. Where several things of one kind are wrong, the place is the least. */
+/* The answers. Check gives 0 to 13, Evaluate 0 to 9 and 14 to 19, a checked evaluation 0 to 19, a merge 0 to 9, 14, 15 and 18.
+ * In brackets: what the place counts; it is 0 where nothing is said, and for 15 and 18 of a merge, which visits no node. Where
+ * several things of one kind are wrong, the place is the least. */
 enum falgrumi_refusal {
-    /* The table is accepted, or the condition has a truth. */
+    /* The table is accepted, the condition has a truth, or the sets are merged. */
     FALGRUMI_NO_REFUSAL = 0,
     /* The table is shorter than its header, or its first word is not 1. */
     FALGRUMI_REFUSED_FORM = 1,
@@ -82,14 +86,15 @@ enum falgrumi_refusal {
     /* The identifier's value is malformed, cut short, over 256 cells, a set whose members do not rise or are of mixed types, or
      * an element that is not there; or bytes are left behind the last value. [identifier; their number for bytes left] */
     FALGRUMI_REFUSED_VALUES = 14,
-    /* The values of the node's operands have no types that its rule allows. [node] */
+    /* The values of the node's operands have no types that its rule allows. [node] Of a merge: the two values are not sets that
+     * share a type, or there are fewer than two free identifiers. */
     FALGRUMI_REFUSED_OPERANDS = 15,
     /* Choice has an empty set, or an application has a relation that is no function, since two of its pairs share a first part,
      * or an argument outside its domain. [node] */
     FALGRUMI_REFUSED_UNDEFINED = 16,
     /* A sum or difference does not fit in 32 bits. [node] */
     FALGRUMI_REFUSED_OVERFLOW = 17,
-    /* The node's value would weigh more than 256 cells. [node] */
+    /* The node's value would weigh more than 256 cells. [node] Of a merge: the union would. */
     FALGRUMI_REFUSED_HEAVY_VALUE = 18,
     /* The step budget is spent. [the node that would have been visited next] */
     FALGRUMI_REFUSED_BUDGET = 19
@@ -148,6 +153,25 @@ uint8_t falgrumi_conforms(const uint8_t *table, size_t table_length, const uint8
 uint8_t falgrumi_checked_evaluate(const uint8_t *table, size_t table_length, uint8_t *sheet, size_t sheet_length,
                                   const uint8_t *values, size_t values_length, uint32_t budget, uint8_t *truth,
                                   uint64_t *place, uint32_t *steps, uint8_t *conforms);
+
+/* A merge: the union of two sets, made in one pass front to front over their rising members, equal fronts taken together, and
+ * the number of comparisons, one each time both still have a front: none where either is empty, otherwise fewer than both have
+ * members together. The two are the values of the two free identifiers with the lowest numbers; the condition is not evaluated.
+ *
+ *   table, values          as for falgrumi_evaluate.
+ *   cells, cells_length    where the union goes, in the form of the values buffer. Its cells fill the front of what is lent, if
+ *                          they fit there: FALGRUMI_MAX_VALUE_BYTES are always enough, and 0 is enough to ask for the count
+ *                          and the length. It may hold anything at entry. Where the cells do not fit, and for every answer but
+ *                          0, no byte is written; what lies behind the cells is never written.
+ *   place                  written at every return: the place of refusals 1 to 9 and 14, else 0.
+ *   comparisons            written at every return: for 0 and 18 the comparisons of the whole merge, else 0.
+ *   bytes                  written at every return: for 0 the length of the union's cells, which fit where this is at most
+ *                          cells_length; else 0.
+ *
+ * Answers a number of enum falgrumi_refusal: 0, 1 to 9, 14, 15 or 18. Evaluate refuses a union with 15 or 18 exactly where the
+ * merge of its operands' values is refused so. */
+uint8_t falgrumi_merge(const uint8_t *table, size_t table_length, const uint8_t *values, size_t values_length, uint8_t *cells,
+                       size_t cells_length, uint64_t *place, uint64_t *comparisons, uint64_t *bytes);
 
 #ifdef __cplusplus
 }

@@ -3,7 +3,7 @@
 use std::ffi::{OsStr, OsString};
 
 pub const USAGE: &str = "\
-falgrumi checks the types of a B condition's table, and evaluates it.
+falgrumi checks the types of a B condition's table, evaluates it, and merges two of its values.
 
 usage:
   falgrumi check FILE
@@ -15,10 +15,13 @@ usage:
       the free identifiers, and a table without any needs none; N is 1000000 unless told;
       --checked checks the table first, and says whether the values have its types, so that the
       guarantee applies: no refusal 15, and every value formed has the type of its node
+  falgrumi merge FILE [--values FILE]
+      gives the union of the first two of the free identifiers' values, two sets, with its number
+      of members and the comparisons that the merge takes; the condition is not evaluated
   falgrumi -h | --help
 
-A FILE `-` is standard input. Exit status: 0 accepted or evaluated, 1 refused, 2 bad file or
-arguments.
+A FILE `-` is standard input. Exit status: 0 accepted, evaluated or merged, 1 refused, 2 bad file
+or arguments.
 ";
 
 #[derive(PartialEq, Eq, Debug)]
@@ -27,12 +30,19 @@ pub enum Command {
     Check(OsString),
     Show(OsString),
     Evaluate(Evaluate),
+    Merge(Inputs),
+}
+
+/// The files of a table and of the values of its free identifiers.
+#[derive(PartialEq, Eq, Debug)]
+pub struct Inputs {
+    pub table: OsString,
+    pub values: Option<OsString>,
 }
 
 #[derive(PartialEq, Eq, Debug)]
 pub struct Evaluate {
-    pub table: OsString,
-    pub values: Option<OsString>,
+    pub inputs: Inputs,
     pub budget: u32,
     pub checked: bool,
 }
@@ -46,6 +56,7 @@ pub fn parse(arguments: &[OsString]) -> Result<Command, String> {
         Some("check") => Ok(Command::Check(only_file(rest)?)),
         Some("show") => Ok(Command::Show(only_file(rest)?)),
         Some("evaluate") => Ok(Command::Evaluate(evaluate(rest)?)),
+        Some("merge") => Ok(Command::Merge(options(rest, &["--values"])?.inputs()?)),
         _ => Err(format!("unknown command {command:?}")),
     }
 }
@@ -64,22 +75,31 @@ fn is_option(word: &OsStr) -> bool {
     word != "-" && word.as_encoded_bytes().starts_with(b"-")
 }
 
-fn evaluate(words: &[OsString]) -> Result<Evaluate, String> {
-    let (mut files, mut values, mut budget) = (Vec::new(), None, None);
-    let mut checked = false;
+#[derive(Default)]
+struct Options {
+    values: Option<OsString>,
+    budget: Option<OsString>,
+    checked: bool,
+    /// The words that are no options of the command, nor values of them.
+    files: Vec<OsString>,
+}
+
+/// The words of a command that knows these options.
+fn options(words: &[OsString], known: &[&str]) -> Result<Options, String> {
+    let mut found = Options::default();
     let mut words = words.iter();
     while let Some(word) = words.next() {
-        let slot = match word.to_str() {
-            Some("--values") => &mut values,
-            Some("--budget") => &mut budget,
+        let slot = match word.to_str().filter(|name| known.contains(name)) {
+            Some("--values") => &mut found.values,
+            Some("--budget") => &mut found.budget,
             Some("--checked") => {
-                if std::mem::replace(&mut checked, true) {
+                if std::mem::replace(&mut found.checked, true) {
                     return Err(format!("{word:?} is given twice"));
                 }
                 continue;
             }
             _ => {
-                files.push(word.clone());
+                found.files.push(word.clone());
                 continue;
             }
         };
@@ -88,13 +108,24 @@ fn evaluate(words: &[OsString]) -> Result<Evaluate, String> {
             return Err(format!("{word:?} is given twice"));
         }
     }
-    let table = only_file(&files)?;
-    if table == "-" && values.as_deref() == Some(OsStr::new("-")) {
-        return Err("the table and the values cannot both be standard input".to_string());
+    Ok(found)
+}
+
+impl Options {
+    fn inputs(self) -> Result<Inputs, String> {
+        let (table, values) = (only_file(&self.files)?, self.values);
+        if table == "-" && values.as_deref() == Some(OsStr::new("-")) {
+            return Err("the table and the values cannot both be standard input".to_string());
+        }
+        Ok(Inputs { table, values })
     }
+}
+
+fn evaluate(words: &[OsString]) -> Result<Evaluate, String> {
+    let mut found = options(words, &["--values", "--budget", "--checked"])?;
+    let (budget, checked) = (found.budget.take(), found.checked);
     Ok(Evaluate {
-        table,
-        values,
+        inputs: found.inputs()?,
         budget: budget.map_or(Ok(1_000_000), number)?,
         checked,
     })
@@ -123,15 +154,18 @@ mod tests {
 
     #[test]
     fn commands_are_understood() {
-        let evaluate = |values: Option<&str>, budget, checked| {
-            let (table, values) = ("t".into(), values.map(OsString::from));
+        let inputs = |values: Option<&str>| Inputs {
+            table: "t".into(),
+            values: values.map(OsString::from),
+        };
+        let evaluate = |values, budget, checked| {
             Ok(Command::Evaluate(Evaluate {
-                table,
-                values,
+                inputs: inputs(values),
                 budget,
                 checked,
             }))
         };
+        let merge = |values| Ok(Command::Merge(inputs(values)));
         assert_eq!(parsed("check -"), Ok(Command::Check("-".into())));
         assert_eq!(parsed("show t"), Ok(Command::Show("t".into())));
         assert_eq!(parsed("evaluate t"), evaluate(None, 1_000_000, false));
@@ -147,6 +181,8 @@ mod tests {
             parsed("evaluate t --budget 4294967295"),
             evaluate(None, u32::MAX, false)
         );
+        assert_eq!(parsed("merge t"), merge(None));
+        assert_eq!(parsed("merge --values - t"), merge(Some("-")));
         assert_eq!(parsed("-h"), Ok(Command::Help));
         assert_eq!(parsed("check t --help"), Ok(Command::Help));
     }
@@ -170,6 +206,13 @@ mod tests {
             "evaluate t --checked --checked",
             "evaluate - --values -",
             "evaluate --fast",
+            "merge",
+            "merge t u",
+            "merge t --values",
+            "merge t --values v --values v",
+            "merge t --values v --budget 1",
+            "merge --checked",
+            "merge - --values -",
         ];
         for line in lines {
             assert!(parsed(line).is_err(), "{line}");

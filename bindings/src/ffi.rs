@@ -44,6 +44,18 @@ mod c {
             steps: *mut u32,
             conforms: *mut u8,
         ) -> u8;
+
+        pub fn falgrumi_merge(
+            table: *const u8,
+            table_length: usize,
+            values: *const u8,
+            values_length: usize,
+            cells: *mut u8,
+            cells_length: usize,
+            place: *mut u64,
+            comparisons: *mut u64,
+            bytes: *mut u64,
+        ) -> u8;
     }
 }
 
@@ -53,6 +65,15 @@ pub struct Answer {
     pub truth: u8,
     pub place: u64,
     pub steps: u32,
+}
+
+/// What a merge answers. `bytes` is the length of the union's cells, whether they fit or not.
+#[derive(Clone, Copy, PartialEq, Eq, Debug)]
+pub struct Union {
+    pub number: u8,
+    pub place: u64,
+    pub comparisons: u64,
+    pub bytes: u64,
 }
 
 /// The answer's number and place.
@@ -131,4 +152,62 @@ pub fn checked_evaluate(
         )
     };
     (answer, conforms == 1)
+}
+
+pub fn merge(table: &[u8], values: &[u8], cells: &mut [u8]) -> Union {
+    // Numbers that no merge answers, so that one that the library has not written is seen.
+    let [mut place, mut comparisons, mut bytes] = [u64::MAX; 3];
+    // SAFETY: as for `check`; only the cells and the three numbers are written.
+    let number = unsafe {
+        c::falgrumi_merge(
+            table.as_ptr(),
+            table.len(),
+            values.as_ptr(),
+            values.len(),
+            cells.as_mut_ptr(),
+            cells.len(),
+            &mut place,
+            &mut comparisons,
+            &mut bytes,
+        )
+    };
+    Union {
+        number,
+        place,
+        comparisons,
+        bytes,
+    }
+}
+
+#[cfg(test)]
+mod tests {
+    use super::*;
+
+    const BINS: &[u8] = include_bytes!("../../tables/bins");
+
+    fn union(number: u8, place: u64, comparisons: u64, bytes: u64) -> Union {
+        Union {
+            number,
+            place,
+            comparisons,
+            bytes,
+        }
+    }
+
+    /// Also those that the safe calls leave out.
+    #[test]
+    fn a_merge_writes_all_its_numbers() {
+        let merge = |table, values| merge(table, values, &mut [0; 48]);
+        let heavy: &[u8] = include_bytes!("../../tests/values/bins-heavy");
+        let unlike: &[u8] = include_bytes!("../../tests/values/bins-unlike");
+        let interleaved: &[u8] = include_bytes!("../../tests/values/bins-interleaved");
+        assert_eq!(merge(BINS, interleaved), union(0, 0, 4, 48));
+        assert_eq!(merge(BINS, &interleaved[..8]), union(14, 0, 0, 0));
+        assert_eq!(merge(BINS, &interleaved[..40]), union(14, 2, 0, 0));
+        assert_eq!(merge(BINS, unlike), union(15, 0, 0, 0));
+        assert_eq!(merge(BINS, heavy), union(18, 0, 399, 0));
+        assert_eq!(merge(&[], heavy), union(1, 0, 0, 0));
+        let unknown = [&BINS[..100], &[12], &BINS[101..]].concat();
+        assert_eq!(merge(&unknown, heavy), union(6, 3, 0, 0));
+    }
 }

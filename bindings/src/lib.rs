@@ -1,6 +1,6 @@
-//! Safe calls of the proved library: Check and Evaluate of document 01.
+//! Safe calls of the proved library: Check and Evaluate of document 01, the merge of document 02.
 //!
-//! A table, a sheet and values are bytes in the forms that `include/falgrumi.h` describes. Every call, on any bytes whatever,
+//! A table, a sheet, values and cells are bytes in the forms that `include/falgrumi.h` describes. Every call, on any bytes whatever,
 //! ends with an answer; nothing is kept between calls. The library works on the caller's stack; 0.4 MB is enough for
 //! what was measured.
 
@@ -17,6 +17,10 @@ pub const HEADER_BYTES: usize = 32;
 pub const NODE_BYTES: usize = 16;
 /// The bytes of a sheet's row.
 pub const ROW_BYTES: usize = 64;
+/// The bytes of a cell.
+pub const CELL_BYTES: usize = 8;
+/// No value's cells are longer.
+pub const MAX_VALUE_BYTES: usize = 2048;
 pub const MAX_GIVEN_SETS: u32 = 16;
 pub const MAX_IDENTIFIERS: u32 = 32;
 pub const MAX_NODES: u32 = 512;
@@ -37,6 +41,19 @@ pub struct GuardedRun {
     /// Whether the values have the types that Check gives to the free identifiers. Then the guarantee holds: the evaluation does
     /// not end in refusal 14 or 15, and every value that it forms has the type in its node's row.
     pub conforms: bool,
+}
+
+/// What a merge answers. `Cells` are the union's cells, or their length in bytes where they go to a lent buffer.
+#[derive(Clone, Copy, PartialEq, Eq, Debug)]
+pub enum Merge<Cells = Vec<u8>> {
+    /// The union, and the comparisons that it took.
+    Merged { comparisons: u64, cells: Cells },
+    /// The union would weigh more than 256 cells; the comparisons of the whole merge.
+    Heavy { comparisons: u64 },
+    /// The two values are not sets that share a type, or there are fewer than two free identifiers.
+    Unfit,
+    /// Refusals 1 to 9 and 14.
+    Refused(Refusal),
 }
 
 /// Checks a table: the types of its identifiers and nodes, or the refusal.
@@ -86,6 +103,23 @@ pub fn conforms(table: &[u8], sheet: &[u8], values: &[u8]) -> bool {
     ffi::conforms(table, sheet, values)
 }
 
+/// Merges the values of the two free identifiers with the lowest numbers, two sets, front to front. The condition is not
+/// evaluated.
+pub fn merge(table: &[u8], values: &[u8]) -> Merge {
+    let mut cells = vec![0; MAX_VALUE_BYTES];
+    let union = ffi::merge(table, values, &mut cells);
+    merged(&union, |bytes| {
+        cells.truncate(bytes);
+        cells
+    })
+}
+
+/// Merges as `merge` does. The union's cells fill the front of what is lent, if they fit there; where they do not, and where
+/// there is no union, no byte is written.
+pub fn merge_into(table: &[u8], values: &[u8], cells: &mut [u8]) -> Merge<usize> {
+    merged(&ffi::merge(table, values, cells), |bytes| bytes)
+}
+
 /// The length of the sheet that Check asks for; 0 where the table's header is too short or beyond the limits.
 pub fn sheet_length(table: &[u8]) -> usize {
     match (table.len() >= HEADER_BYTES, word(table, 2), word(table, 3)) {
@@ -107,6 +141,22 @@ fn ended(answer: ffi::Answer) -> Evaluation {
     Evaluation {
         outcome,
         steps: answer.steps,
+    }
+}
+
+fn merged<Cells>(union: &ffi::Union, cells: impl FnOnce(usize) -> Cells) -> Merge<Cells> {
+    let comparisons = union.comparisons;
+    match union.number {
+        15 => Merge::Unfit,
+        18 => Merge::Heavy { comparisons },
+        number => match refused(number, union.place) {
+            Some(refusal) => Merge::Refused(refusal),
+            None => Merge::Merged {
+                comparisons,
+                // At most 2048.
+                cells: cells(union.bytes as usize),
+            },
+        },
     }
 }
 

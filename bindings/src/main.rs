@@ -1,11 +1,12 @@
-//! Checks, shows and evaluates tables in files.
+//! Checks, shows and evaluates tables in files, and merges sets of their values.
 
 mod arguments;
 mod notation;
 mod show;
 mod table;
 
-use arguments::{Command, Evaluate};
+use arguments::{Command, Evaluate, Inputs};
+use falgrumi::{Merge, Refusal};
 use std::ffi::{OsStr, OsString};
 use std::fs::File;
 use std::io::{self, Read, Write};
@@ -41,6 +42,7 @@ fn run(arguments: &[OsString]) -> Result<Report, String> {
         Command::Check(file) => Ok(check(&read(&file)?)),
         Command::Show(file) => Ok(show(&read(&file)?)),
         Command::Evaluate(wanted) => evaluate(&wanted),
+        Command::Merge(inputs) => merge(&inputs),
     }
 }
 
@@ -85,16 +87,15 @@ fn show(table: &[u8]) -> Report {
 }
 
 fn evaluate(wanted: &Evaluate) -> Result<Report, String> {
-    let table = read(&wanted.table)?;
-    let values = wanted.values.as_deref().map_or(Ok(Vec::new()), read)?;
+    let (table, values) = read_both(&wanted.inputs)?;
     if !wanted.checked {
         let evaluation = falgrumi::evaluate(&table, &values, wanted.budget);
-        return ended(&table, wanted, &evaluation);
+        return ended(&table, &wanted.inputs, &evaluation);
     }
     let mut sheet = vec![0; falgrumi::sheet_length(&table)];
     match falgrumi::checked_evaluation(&table, &mut sheet, &values, wanted.budget) {
         Ok(run) => {
-            let report = ended(&table, wanted, &run.evaluation)?;
+            let report = ended(&table, &wanted.inputs, &run.evaluation)?;
             let guarantee = match run.conforms {
                 true => {
                     "the guarantee applies: the table is accepted, and the values have its types"
@@ -117,15 +118,12 @@ fn evaluate(wanted: &Evaluate) -> Result<Report, String> {
 
 fn ended(
     table: &[u8],
-    wanted: &Evaluate,
+    inputs: &Inputs,
     evaluation: &falgrumi::Evaluation,
 ) -> Result<Report, String> {
     let answer = match evaluation.outcome {
         Ok(truth) => format!("{truth}\n"),
-        Err(refusal) if refusal.number == 14 && wanted.values.is_none() => {
-            return Err(missing_values(table));
-        }
-        Err(refusal) => show::refusal(table, &refusal),
+        Err(refusal) => refused(table, inputs, &refusal)?,
     };
     Ok(Report {
         text: format!("{answer}steps: {}\n", evaluation.steps),
@@ -133,11 +131,58 @@ fn ended(
     })
 }
 
-fn missing_values(table: &[u8]) -> String {
-    let free = table::Table::read(table).map_or(Vec::new(), |table| table.free().collect());
-    let names: Vec<String> = free.iter().map(|x| format!("x{x}")).collect();
-    let names = names.join(", ");
-    format!("the table has free identifiers ({names}): give their values with --values FILE")
+fn merge(inputs: &Inputs) -> Result<Report, String> {
+    let (table, values) = read_both(inputs)?;
+    let merge = falgrumi::merge(&table, &values);
+    let names: Vec<String> = free(&table).into_iter().take(2).collect();
+    let union = names.join(" ∪ ");
+    let text = match &merge {
+        Merge::Merged { comparisons, cells } => {
+            let members = falgrumi::word(cells, 0).unwrap_or_default();
+            let (value, _) = notation::value(cells).unwrap_or_default();
+            format!("{union} = {value}\nmembers: {members}, comparisons: {comparisons}\n")
+        }
+        Merge::Heavy { comparisons } => format!(
+            "refused 18: {union} would weigh more than 256 cells\ncomparisons: {comparisons}\n"
+        ),
+        Merge::Unfit if names.len() < 2 => {
+            "refused 15: the table has fewer than two free identifiers\n".to_string()
+        }
+        Merge::Unfit => format!(
+            "refused 15: the values of {} are not sets that share a type\n",
+            names.join(" and ")
+        ),
+        Merge::Refused(refusal) => refused(&table, inputs, refusal)?,
+    };
+    Ok(Report {
+        text,
+        refused: !matches!(merge, Merge::Merged { .. }),
+    })
+}
+
+/// The text of a refusal; no values at all where some are needed are a bad argument.
+fn refused(table: &[u8], inputs: &Inputs, refusal: &Refusal) -> Result<String, String> {
+    if refusal.number == 14 && inputs.values.is_none() {
+        return Err(format!(
+            "the table has free identifiers ({}): give their values with --values FILE",
+            free(table).join(", ")
+        ));
+    }
+    Ok(show::refusal(table, refusal))
+}
+
+/// The names of the free identifiers.
+fn free(table: &[u8]) -> Vec<String> {
+    let table = table::Table::read(table);
+    let numbers = table.map_or(Vec::new(), |table| table.free().collect());
+    numbers.iter().map(|x| format!("x{x}")).collect()
+}
+
+/// The bytes of the table, and of the values if a file has them.
+fn read_both(inputs: &Inputs) -> Result<(Vec<u8>, Vec<u8>), String> {
+    let table = read(&inputs.table)?;
+    let values = inputs.values.as_deref().map_or(Ok(Vec::new()), read)?;
+    Ok((table, values))
 }
 
 fn read(file: &OsStr) -> Result<Vec<u8>, String> {

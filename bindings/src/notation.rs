@@ -1,6 +1,7 @@
-//! Document 01's notation of nodes.
+//! Document 01's notation of nodes and of values.
 
 use crate::table::Table;
+use falgrumi::{word, CELL_BYTES};
 
 /// How a kind is written: the text around what its fields hold.
 #[derive(Clone, Copy)]
@@ -67,6 +68,33 @@ fn leaf(kind: u32, a: u32, b: u32) -> String {
         (26, _) => "∅".to_string(),
         _ => "BOOL".to_string(),
     }
+}
+
+/// The value whose cells stand at the front, as nodes that form it are written, and the cells behind it; None where the bytes hold
+/// no value.
+pub fn value(cells: &[u8]) -> Option<(String, &[u8])> {
+    let (cell, rest) = cells.split_at_checked(CELL_BYTES)?;
+    let payload = word(cell, 0)?;
+    match cell[4] {
+        1 => Some((leaf(23, payload, 0), rest)),
+        2 => Some((leaf(24, payload, 0), rest)),
+        3 => Some((leaf(22, payload / 256, payload % 256), rest)),
+        4 => values(2, rest).map(|(parts, rest)| (format!("({parts})"), rest)),
+        5 if payload == 0 => Some((leaf(26, 0, 0), rest)),
+        5 => values(payload, rest).map(|(members, rest)| (format!("{{{members}}}"), rest)),
+        _ => None,
+    }
+}
+
+/// So many values with commas between them, and the cells behind the last.
+fn values(count: u32, cells: &[u8]) -> Option<(String, &[u8])> {
+    let (mut texts, mut rest) = (Vec::new(), cells);
+    for _ in 0..count {
+        let (text, behind) = value(rest)?;
+        texts.push(text);
+        rest = behind;
+    }
+    Some((texts.join(", "), rest))
 }
 
 impl Table {
@@ -169,6 +197,35 @@ mod tests {
         assert_eq!(over([37, 1, 1, 0]), "(1 + 1)(1 + 1)");
         assert_eq!(over([4, 1, 0, 0]), "¬(1 + 1)");
         assert_eq!(over([10, 3, 1, 1]), "∀ x3 ∈ 1 + 1 · 1 + 1");
+    }
+
+    fn cells(tags_and_payloads: &[(u8, u32)]) -> Vec<u8> {
+        let cell = |&(tag, p): &(u8, u32)| [&p.to_le_bytes()[..], &[tag, 0, 0, 0]].concat();
+        tags_and_payloads.iter().flat_map(cell).collect()
+    }
+
+    #[test]
+    fn values_are_written_as_nodes_are() {
+        let text = |some: &[(u8, u32)]| value(&cells(some)).map(|(text, _)| text);
+        let wanted = |t: &str| Some(t.to_string());
+        assert_eq!(text(&[(1, u32::MAX)]), wanted("-1"));
+        assert_eq!(text(&[(2, 0)]), wanted("FALSE"));
+        assert_eq!(text(&[(3, 256 * 15 + 31)]), wanted("G15.31"));
+        assert_eq!(text(&[(4, 0), (1, 2), (2, 1)]), wanted("(2, TRUE)"));
+        assert_eq!(text(&[(5, 0)]), wanted("∅"));
+        assert_eq!(text(&[(5, 2), (1, 2), (1, 3)]), wanted("{2, 3}"));
+        let group = [(5, 2), (5, 0), (5, 1), (4, 0), (1, 7), (5, 0)];
+        assert_eq!(text(&group), wanted("{∅, {(7, ∅)}}"));
+    }
+
+    #[test]
+    fn bytes_that_hold_no_value_have_no_text() {
+        let behind = cells(&[(1, 2), (1, 3)]);
+        assert_eq!(value(&behind), Some(("2".to_string(), &behind[8..])));
+        for some in [&[][..], &[(6, 0)], &[(4, 0), (1, 1)], &[(5, u32::MAX)]] {
+            assert_eq!(value(&cells(some)), None);
+        }
+        assert_eq!(value(&behind[..7]), None);
     }
 
     #[test]

@@ -1,5 +1,8 @@
 //! The library through its safe calls: document 01's conditions, and what the wrapper adds.
 
+mod common;
+
+use common::table;
 use falgrumi::{
     check, check_into, checked_evaluation, conforms, evaluate, sheet_length, Evaluation,
     GuardedRun, Refusal,
@@ -13,15 +16,6 @@ const GATE: &[u8] = include_bytes!("../../tables/gate");
 const GROUPS: &[u8] = include_bytes!("../../tables/groups");
 /// x is element 1 of G0.
 const ELEMENT: &[u8] = &[1, 0, 0, 0, 3, 0, 0, 0];
-
-/// A table with no given sets and these identifiers and nodes.
-fn table(marks: &[u32], nodes: &[[u32; 4]]) -> Vec<u8> {
-    let nodes_at = 32 + 4 * marks.len();
-    let length = nodes_at + 16 * nodes.len();
-    let header = [1, 0, marks.len(), nodes.len(), 32, 32, nodes_at, length].map(|w| w as u32);
-    let words = [&header, marks, nodes.as_flattened()].concat();
-    words.into_iter().flat_map(u32::to_le_bytes).collect()
-}
 
 fn refused(number: u8, place: u32) -> Refusal {
     Refusal { number, place }

@@ -1,9 +1,10 @@
-//! bench: the time of Check and of Evaluate against the reference on the same cases in one run, as a ratio (above 1: the
+//! bench: the time of Check, Evaluate and merges against the reference on the same cases in one run, as a ratio (above 1: the
 //! library is faster).
 
 use std::time::Instant;
 
 use differential::{case, sheet_length, Case};
+use falgrumi::MAX_VALUE_BYTES;
 use reference::build::Draft;
 use reference::evaluate::Outcome;
 use reference::generate::{Class, Generator};
@@ -174,6 +175,32 @@ fn large_sets() -> Case {
     case(&draft, &[members(0, 120), members(80, 200), members(0, 200), members(80, 120)])
 }
 
+/// For all x in 1..200: card(a \/ b) = n, where a and b have n members together. These alternate, so that both are walked to the end.
+fn unions(n: i32, member: impl Fn(i32) -> Value) -> Case {
+    let mut draft = Draft::default();
+    let names: Vec<u32> = (0..2).map(|_| draft.identifier(0)).collect();
+    let x = draft.identifier(1);
+    let range = interval(&mut draft, 1, 200);
+    let (a, b) = (draft.using(names[0]), draft.using(names[1]));
+    let union = draft.two(Kind::Union, a, b);
+    let card = draft.one(Kind::Card, union);
+    let size = draft.integer(n);
+    let body = draft.two(Kind::Equal, card, size);
+    draft.node(Kind::ForAll, x, range, body);
+    let every_second = |from: i32| set((from..n).step_by(2).map(&member).collect());
+    case(&draft, &[every_second(0), every_second(1)])
+}
+
+/// Two sets of 100 integers.
+fn hundreds() -> Case {
+    unions(200, Value::Integer)
+}
+
+/// Two sets of 40 pairs; four at a time have the same first part.
+fn forties() -> Case {
+    unions(80, |i| pair(Value::Integer(i / 4), Value::Integer(i)))
+}
+
 /// For all s in a: a \/ b = c and s : c, where c has all 66 sets of two of 0..11, and a and b two thirds of them each.
 fn families() -> Case {
     let mut draft = Draft::default();
@@ -252,6 +279,8 @@ fn evaluation() {
         ("integer loops", integer_loops(), 10),
         ("nested quantifiers over sets", nested_sets(), 50),
         ("unions of large sets", large_sets(), 50),
+        ("unions of 100 and 100", hundreds(), 50),
+        ("unions of 40 and 40 pairs", forties(), 50),
         ("unions of sets of sets", families(), 50),
         ("power sets and products", powers(), 50),
         ("function of 80 pairs", applications(), 200),
@@ -271,6 +300,34 @@ fn evaluation() {
     }
 }
 
+/// Microseconds a merge, and its comparisons.
+fn merge_time(case: &Case, rounds: u32, mut merge: impl FnMut(&[u8], &[u8]) -> u64) -> (f64, u64) {
+    let comparisons = merge(&case.table, &case.values);
+    let start = Instant::now();
+    for _ in 0..rounds {
+        assert_eq!(merge(&case.table, &case.values), comparisons);
+    }
+    (start.elapsed().as_secs_f64() * 1e6 / f64::from(rounds), comparisons)
+}
+
+fn merges() {
+    let workloads = [("100 and 100", hundreds()), ("40 and 40 pairs", forties())];
+    println!("{:24} {:>12} {:>12} {:>12} {:>7}", "Merge", "comparisons", "library us", "reference us", "ratio");
+    for (name, case) in workloads {
+        let mut cells = [0; MAX_VALUE_BYTES];
+        let (ours, a) = merge_time(&case, 5_000, |t, v| match falgrumi::merge_into(t, v, &mut cells) {
+            falgrumi::Merge::Merged { comparisons, .. } => comparisons,
+            other => panic!("{other:?} on {name}"),
+        });
+        let (theirs, b) = merge_time(&case, 5_000, |t, v| match reference::merge::merge(t, v) {
+            reference::merge::Merge::Merged { comparisons, .. } => comparisons.into(),
+            other => panic!("{other:?} on {name}"),
+        });
+        assert_eq!(a, b, "the comparisons differ on {name}");
+        println!("{name:24} {a:12} {ours:12.2} {theirs:12.2} {:7.2}", theirs / ours);
+    }
+}
+
 fn main() {
     let workloads = [
         ("small, 10 to 40 nodes", small(), 50),
@@ -287,4 +344,5 @@ fn main() {
         println!("{name:24} {ours:12.2} {theirs:12.2} {:7.2}", theirs / ours);
     }
     evaluation();
+    merges();
 }

@@ -1,10 +1,13 @@
-//! differential SEED COUNT: compares the library with the reference on generated cases: Check, sheets included, and Evaluate.
+//! differential SEED COUNT: compares the library with the reference on COUNT generated cases of Check, sheets included, and Evaluate,
+//! and as many merges, lent cells included.
 
-use falgrumi::{check_into, evaluate};
+use falgrumi::{check_into, evaluate, merge_into, Merge, Refusal};
+use reference::batch::hex;
 use reference::evaluate::Outcome;
 use reference::generate::{Class, Generator, Sample};
+use reference::merge;
 
-/// What a sheet holds before a call, so that an untouched one can be told.
+/// What a sheet or lent cells hold before a call, so that untouched ones can be told.
 const FILL: u8 = 0xA5;
 
 fn check_differs(sample: &Sample) -> Option<String> {
@@ -37,8 +40,88 @@ fn evaluation_differs(sample: &Sample) -> Option<String> {
         "evaluate at budget {}: {answer:?}, the reference {:?}, values {}",
         sample.budget,
         (end, run.steps),
-        reference::batch::hex(&sample.values)
+        hex(&sample.values)
     ))
+}
+
+/// The bytes lent to a merge in turn: what its cells take, more, less, none. Where there is no union, there is room for one.
+fn room(merge: &merge::Merge, number: u64) -> usize {
+    let cells = match merge {
+        merge::Merge::Merged { cells, .. } => cells.len(),
+        _ => 64,
+    };
+    let some = 1 + (number / 4) as usize % 64;
+    match number % 4 {
+        0 => cells,
+        1 => cells + some,
+        2 => cells.saturating_sub(some),
+        _ => 0,
+    }
+}
+
+/// What the library must answer and have written to this many bytes.
+fn wanted_merge(merge: merge::Merge, room: usize) -> (Merge<usize>, Vec<u8>) {
+    let mut lent = vec![FILL; room];
+    let answer = match merge {
+        merge::Merge::Merged { comparisons, cells } => {
+            if cells.len() <= room {
+                lent[..cells.len()].copy_from_slice(&cells);
+            }
+            Merge::Merged {
+                comparisons: comparisons.into(),
+                cells: cells.len(),
+            }
+        }
+        merge::Merge::Heavy { comparisons } => Merge::Heavy {
+            comparisons: comparisons.into(),
+        },
+        merge::Merge::Unfit => Merge::Unfit,
+        merge::Merge::Refused(r) => Merge::Refused(Refusal {
+            number: r.number as u8,
+            place: r.place,
+        }),
+    };
+    (answer, lent)
+}
+
+/// The library's answer, and how it differs from the reference's.
+fn merge_differs(table: &[u8], values: &[u8], number: u64) -> (Merge<usize>, Option<String>) {
+    let merge = merge::merge(table, values);
+    let room = room(&merge, number);
+    let mut ours = vec![FILL; room];
+    let answer = merge_into(table, values, &mut ours);
+    let (wanted, theirs) = wanted_merge(merge, room);
+    if answer == wanted && ours == theirs {
+        return (answer, None);
+    }
+    let text = format!(
+        "merge into {room} bytes: {answer:?}, the reference {wanted:?}, cells {} for {}",
+        hex(&ours),
+        hex(&theirs)
+    );
+    (answer, Some(text))
+}
+
+/// How many of so many merges differ.
+fn merges(generator: &mut Generator, count: u64) -> u64 {
+    let mut failed = 0;
+    let (mut merged, mut heavy, mut unfit, mut refused) = (0u64, 0u64, 0u64, 0u64);
+    for number in 0..count {
+        let (table, values) = generator.merge_sample();
+        let (answer, text) = merge_differs(&table, &values, number);
+        if let Some(text) = text {
+            failed += 1;
+            println!("merge {number}: table {}, values {}: {text}", hex(&table), hex(&values));
+        }
+        *match answer {
+            Merge::Merged { .. } => &mut merged,
+            Merge::Heavy { .. } => &mut heavy,
+            Merge::Unfit => &mut unfit,
+            Merge::Refused(_) => &mut refused,
+        } += 1;
+    }
+    println!("merge: {merged} merged, {heavy} heavy, {unfit} unfit, {refused} refused");
+    failed
 }
 
 fn main() {
@@ -57,8 +140,7 @@ fn main() {
         let sample = generator.sample(class);
         for text in [check_differs(&sample), evaluation_differs(&sample)].into_iter().flatten() {
             failed += 1;
-            let table = reference::batch::hex(&sample.table);
-            println!("case {number} ({}): table {table}: {text}", class.name());
+            println!("case {number} ({}): table {}: {text}", class.name(), hex(&sample.table));
         }
         let mut sheet = vec![0; sample.sheet as usize];
         accepted += u64::from(check_into(&sample.table, &mut sheet).is_ok());
@@ -67,6 +149,7 @@ fn main() {
     }
     println!("check: {accepted} of {count} tables accepted");
     println!("evaluate: {} truths, refusals by number: {:?}", ends[0], &ends[1..]);
-    println!("{} passed, {failed} failed", 2 * count - failed);
+    failed += merges(&mut generator, count);
+    println!("{} passed, {failed} failed", 3 * count - failed);
     std::process::exit(i32::from(failed > 0));
 }

@@ -1,7 +1,9 @@
-//! stack [COUNT]: the most stack that Check, Evaluate and both in one call were seen to take, over tall tables made by hand and
-//! COUNT generated cases (5,000). The stack below the caller is painted, and after the call the lowest byte that has changed is looked for.
+//! stack [COUNT]: the most stack that Check, Evaluate, both in one call and a merge were seen to take, over tall tables made by hand,
+//! COUNT generated cases (5,000) and as many generated merges. The stack below the caller is painted, and after the call the lowest byte
+//! that has changed is looked for.
 
 use differential::{case, sheet_length, Case};
+use falgrumi::MAX_VALUE_BYTES;
 use reference::build::Draft;
 use reference::generate::{Class, Generator};
 use reference::kinds::Kind;
@@ -28,9 +30,14 @@ fn taken(run: &dyn Fn()) -> usize {
     DEPTH - untouched.count()
 }
 
+/// An integer in so many singletons.
+fn singletons(count: usize, n: i32) -> Value {
+    (0..count).fold(Value::Integer(n), |value, _| set(vec![value]))
+}
+
 /// 256 cells, one in the other.
 fn nested() -> Value {
-    (0..255).fold(Value::Integer(1), |value, _| set(vec![value]))
+    singletons(255, 1)
 }
 
 /// Pairs whose second part is a pair, 255 cells.
@@ -40,7 +47,7 @@ fn chain() -> Value {
 
 /// A set of two members of 127 cells each that differ in the innermost: their order is decided there.
 fn twins() -> Value {
-    set([1, 2].map(|n| (0..126).fold(Value::Integer(n), |value, _| set(vec![value]))).to_vec())
+    set([1, 2].map(|n| singletons(126, n)).to_vec())
 }
 
 /// The case with a value for each free identifier; with `more`, unused identifiers that have the first value too, as many as the table can
@@ -118,6 +125,36 @@ fn made() -> Vec<Case> {
     cases
 }
 
+/// Two sets to be merged, and others as heavy as the first, as many as a table can have. Members that are nested are told apart by their
+/// innermost integer. The unions of the first and last two weigh 511.
+fn made_merges() -> [Case; 3] {
+    let every_second = |from: i32| set((from..510).step_by(2).map(Value::Integer).collect());
+    let sets = [
+        [nested(), singletons(255, 2)],
+        [twins(), singletons(127, 2)],
+        [every_second(0), every_second(1)],
+    ];
+    sets.map(|two| {
+        let mut draft = Draft::default();
+        for _ in &two {
+            draft.identifier(0);
+        }
+        filled(draft, two.to_vec(), true)
+    })
+}
+
+fn merge_stack(generator: &mut Generator, count: u64) -> usize {
+    let generated = (0..count).map(|_| generator.merge_sample());
+    let generated = generated.map(|(table, values)| Case { table, values });
+    let cells = std::cell::RefCell::new([0; MAX_VALUE_BYTES]);
+    let stacks = made().into_iter().chain(made_merges()).chain(generated).map(|case| {
+        taken(&|| {
+            let _ = falgrumi::merge_into(&case.table, &case.values, &mut *cells.borrow_mut());
+        })
+    });
+    stacks.fold(0, usize::max)
+}
+
 fn measure(count: u64) {
     let mut generator = Generator::new(3, false, None);
     let made = made().into_iter().map(|case| (sheet_length(&case.table), case));
@@ -142,7 +179,8 @@ fn measure(count: u64) {
             let _ = falgrumi::checked_evaluation(&case.table, &mut sheet.borrow_mut(), &case.values, 10_000);
         }));
     }
-    println!("stack: Check {check} bytes, Evaluate {evaluate} bytes, a checked evaluation {both} bytes");
+    let merge = merge_stack(&mut generator, count);
+    println!("stack: Check {check} bytes, Evaluate {evaluate} bytes, a checked evaluation {both} bytes, a merge {merge} bytes");
 }
 
 fn main() {
