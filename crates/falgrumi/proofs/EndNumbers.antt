@@ -7,10 +7,11 @@ use mathlib.Core.Path.{_≡_, subst}
 use native.Mathlib.Omega.{arith}
 use Rattle.rules.specs.Ends.{End, done}
 use Rattle.rules.specs.Evaluation.{evaluation}
+use Rattle.rules.specs.Merges.{unionIn}
 use Rattle.rules.specs.Refusals.{RefusesOnly}
 use Rattle.rules.specs.Verdict.{Verdict, accepts}
 use Rattle.laws.proofs.EndLaws.{refuses-imp}
-use Rattle.laws.proofs.RefusalLaws.{verdict-refuses, evaluation-refuses, readable-refuses}
+use Rattle.laws.proofs.RefusalLaws.{verdict-refuses, evaluation-refuses, readable-refuses, union-refuses}
 use Rattle.typing.specs.Model.{verdict}
 use Rattle.typing.proofs.VerdictRight.{verdict-right}
 use Rattle.reports.specs.Told.{InByte}
@@ -34,6 +35,13 @@ accepted-numbers bs buffer rows room budget e = accepted-within buffer budget (s
 -- So all of them go into a byte.
 pub verdict-byte : (bs : List ℕ) (room : ℕ) → InByte (verdict bs room)
 verdict-byte bs room = refuses-imp _ _ (λ r p h. omega (arith, h .1)) (verdict bs room) (verdict-numbers bs room)
+
+pub union-byte : (bs buffer : List ℕ) → InByte (unionIn bs buffer)
+union-byte bs buffer = refuses-imp _ _ (λ r p h. small r (h .0)) (unionIn bs buffer) (union-refuses bs buffer)
+  where
+    small : (r : ℕ) → ((1 ≤ r) × (r ≤ 9)) ⊎ (r ≡ 14) → r < 256
+    small r (inl h) = omega (arith, h .1)
+    small r (inr h) = omega (arith, h)
 
 pub evaluation-byte : (bs buffer : List ℕ) (budget : ℕ) → InByte (evaluation bs buffer budget .end)
 evaluation-byte bs buffer budget =

@@ -5,3 +5,4 @@ pub mod Demand
 pub mod CheckedLaws
 pub mod CheckedTrials
 pub mod Numbers
+pub mod MergeLaws

@@ -20,15 +20,19 @@ use Rattle.rules.specs.Cells.{noValue, valuesIn}
 use Rattle.rules.specs.Evaluation.{evaluation}
 use Rattle.rules.specs.Visits.{Completes, evaluationVisits}
 use Rattle.rules.specs.Verdict.{nodePlace, Whole, Only, Light, sheetOf, sheetLength, sheetAfter}
+use Rattle.rules.specs.Merges.{unionIn}
 use Rattle.rules.specs.Refusals.{PlaceInRange, RefusesOnly, ClashesAt, DifferAt, TooHeavyAt, IsLeast}
 use Rattle.rules.specs.Safety.{Free, Any, All}
 use Rattle.typing.specs.Model.{verdict}
 use Rattle.conforms.specs.Conforming.{HasWritten}
+use Rattle.unions.specs.Answers.{cellsAfter}
+use Rattle.falgrumi.specs.Answers.{mergeEnd}
 use Rattle.laws.proofs.EndLaws.{refuses-imp}
 use Rattle.laws.proofs.VerdictLaws.{one-table, accepted-where, rows-where, untyped-where, different-where, heavy-where, clash-at, different-at, heavy-at}
-use Rattle.laws.proofs.RefusalLaws.{verdict-refuses, evaluation-refuses, safe-refuses}
+use Rattle.laws.proofs.RefusalLaws.{verdict-refuses, evaluation-refuses, union-refuses, safe-refuses}
 use Rattle.laws.proofs.TraceLaws.{completed-have}
 use Rattle.typing.proofs.VerdictRight.{verdict-right}
+use Rattle.falgrumi.proofs.MergeLaws.{untouched}
 use Rattle.falgrumi.proofs.Demand.{guarantee}
 
 -- DEMAND 1. Every answer of Check is acceptance or one of the refusals 1 to 13, and its place is one that this refusal may name.
@@ -51,6 +55,15 @@ Demand1-Steps = (bs buffer : List ℕ) (budget : ℕ) →
 -- A refusal by Check leaves every byte of the sheet as it was lent.
 abbrev pub Demand1-Sheet : Type 0
 Demand1-Sheet = (bs sheet : List ℕ) (r p : ℕ) → verdict bs (length sheet) ≡ refused r p → sheetAfter (verdict bs (length sheet)) sheet ≡ sheet
+
+-- Every answer of a merge (document 02, N12) is a union, that it is too heavy, that the values do not fit, or one of the refusals 1 to 9 and 14, and
+-- its place is one that this refusal may name.
+abbrev pub Demand1-Merge : Type 0
+Demand1-Merge = (bs buffer : List ℕ) → RefusesOnly (λ r p. (((1 ≤ r) × (r ≤ 9)) ⊎ (r ≡ 14)) × PlaceInRange bs r p) (unionIn bs buffer)
+
+-- A refusal, 15 and 18 included, leaves every byte that was lent for the union as it was.
+abbrev pub Demand1-Cells : Type 0
+Demand1-Cells = (bs buffer out : List ℕ) (r p : ℕ) → mergeEnd (unionIn bs buffer) ≡ refused r p → cellsAfter (unionIn bs buffer) out ≡ out
 
 -- DEMAND 2 speaks of Check's answer on a readable table with a sheet of the right length.
 abbrev pub OnReadable : (End (List ℕ) → Table → Type 0) → Type 0
@@ -111,6 +124,12 @@ demand1-steps bs buffer budget =
 
 pub demand1-sheet : Demand1-Sheet
 demand1-sheet bs sheet r p e = ap (λ (a : End (List ℕ)). sheetAfter a sheet) e
+
+pub demand1-merge : Demand1-Merge
+demand1-merge = union-refuses
+
+pub demand1-cells : Demand1-Cells
+demand1-cells bs buffer out r p e = untouched (unionIn bs buffer) out e
 
 pub demand2-accepted : Demand2-Accepted
 demand2-accepted bs room tb e fit = accepted-where bs (verdict-right bs room) e fit

@@ -1,11 +1,12 @@
 -- What the exported functions answer and write: a refusal's number, 0 where there is none, its place, the condition's truth, the
--- visits made, and whether the values conform.
-use Prim.Native.Nat.{ℕ}
+-- visits made, and whether the values conform; of a merge the comparisons and the bytes of the union.
+use Prim.Native.Nat.{ℕ, _*_}
 use mathlib.Core.Bool.{Bool}
 use mathlib.Core.Path.{_≡_}
-use Rattle.rules.specs.Values.{bit}
+use Rattle.rules.specs.Values.{bit, weight}
 use Rattle.rules.specs.Ends.{End, done, refused, _>>=_}
-use Rattle.reports.specs.Told.{TellsRun}
+use Rattle.rules.specs.Merges.{Union, unites, heavy, unfit}
+use Rattle.reports.specs.Told.{TellsEnd, TellsRun}
 use Rattle.falgrumi.specs.Guarantee.{Report}
 
 -- A checked evaluation as one end: the first refusal decides. Check's makes no visits, and no guarantee applies there.

@@ -2,3 +2,4 @@
 pub mod UnionLaws
 pub mod FreeLaws
 pub mod LoadedLaws
+pub mod AgreeLaws
