@@ -2,18 +2,20 @@
 
 use crate::check::check;
 use crate::evaluate::{evaluate, Outcome};
+use crate::merge::{merge, Merge};
 use crate::table;
 use crate::types::ROW_BYTES;
 use crate::Refusal;
 
 pub const WORD_CHECK: u32 = 1;
 pub const WORD_EVALUATE: u32 = 2;
+pub const WORD_MERGE: u32 = 9;
 pub const MAX_TABLE: u32 = 16_384;
 pub const MAX_VALUES: u32 = 131_072;
 pub const MAX_SHEET: u32 = 1_048_576;
 
 /// One question. `Read` has no place in a batch: its answer is part of the
-/// other two.
+/// others.
 #[derive(Clone, PartialEq, Eq, Debug)]
 pub enum Case {
     Read {
@@ -28,17 +30,23 @@ pub enum Case {
         values: Vec<u8>,
         budget: u32,
     },
+    Merge {
+        table: Vec<u8>,
+        values: Vec<u8>,
+    },
 }
 
 impl Case {
     pub fn table(&self) -> &[u8] {
         match self {
-            Case::Read { table } | Case::Check { table, .. } | Case::Evaluate { table, .. } => {
-                table
-            }
+            Case::Read { table }
+            | Case::Check { table, .. }
+            | Case::Evaluate { table, .. }
+            | Case::Merge { table, .. } => table,
         }
     }
 
+    /// The line in a batch's output.
     pub fn answer(&self) -> String {
         match self {
             Case::Read { table } => match table::read(table) {
@@ -51,10 +59,25 @@ impl Case {
                 values,
                 budget,
             } => evaluate_answer(table, values, *budget),
+            Case::Merge { table, values } => merge_answer(&merge(table, values)),
         }
     }
 
-    /// The case as one line of text, bytes in hexadecimal, with its answer.
+    /// The answer, and beside `heavy` the comparisons. A batch's output has no
+    /// room for these, but the definitions are to be compared in them too.
+    pub fn whole_answer(&self) -> String {
+        let answer = self.answer();
+        match self {
+            Case::Merge { table, values } => match merge(table, values) {
+                Merge::Heavy { comparisons } => format!("{answer} {comparisons}"),
+                _ => answer,
+            },
+            _ => answer,
+        }
+    }
+
+    /// The case as one line of text, bytes in hexadecimal, with its whole
+    /// answer.
     pub fn line(&self) -> String {
         let question = match self {
             Case::Read { table } => format!("read {}", hex_or_dash(table)),
@@ -68,8 +91,11 @@ impl Case {
                 hex_or_dash(table),
                 hex_or_dash(values)
             ),
+            Case::Merge { table, values } => {
+                format!("merge {} {}", hex_or_dash(table), hex_or_dash(values))
+            }
         };
-        format!("{question} {}", self.answer())
+        format!("{question} {}", self.whole_answer())
     }
 
     /// The case in a batch.
@@ -87,6 +113,11 @@ impl Case {
             } => {
                 let (t, v) = (table.len() as u32, values.len() as u32);
                 put_words(out, &[WORD_EVALUATE, t, v, *budget]);
+                out.extend(table);
+                out.extend(values);
+            }
+            Case::Merge { table, values } => {
+                put_words(out, &[WORD_MERGE, table.len() as u32, values.len() as u32]);
                 out.extend(table);
                 out.extend(values);
             }
@@ -143,6 +174,15 @@ pub fn evaluate_answer(table: &[u8], values: &[u8], budget: u32) -> String {
     }
 }
 
+fn merge_answer(merge: &Merge) -> String {
+    match merge {
+        Merge::Merged { comparisons, cells } => format!("merged {comparisons} {}", hex(cells)),
+        Merge::Heavy { .. } => "heavy".to_string(),
+        Merge::Unfit => "unfit".to_string(),
+        Merge::Refused(refusal) => refused(*refusal),
+    }
+}
+
 /// Why a batch stops before its end.
 #[derive(Clone, Copy, PartialEq, Eq, Debug)]
 enum Stop {
@@ -195,6 +235,15 @@ fn take_case(rest: &mut &[u8]) -> Result<Case, Stop> {
                 values,
                 budget,
             })
+        }
+        WORD_MERGE => {
+            let (t, v) = (take_word(rest)?, take_word(rest)?);
+            if t > MAX_TABLE || v > MAX_VALUES {
+                return Err(Stop::Long);
+            }
+            let table = take_bytes(rest, t)?;
+            let values = take_bytes(rest, v)?;
+            Ok(Case::Merge { table, values })
         }
         _ => Err(Stop::Unknown),
     }

@@ -1,13 +1,18 @@
 //! Cases beyond P1 to P12, each with Evaluate's answer: damaged tables,
 //! values buffers, the order of values, and what the kinds give. The batch has them after the
 //! conditions of document 01. Nodes stand as in the document: kind, a, b, c.
+//! `merges` has those of document 02, N12, with the answers of the merge.
+
+mod merges;
 
 use crate::batch::Case;
 use crate::build::Draft;
+pub use merges::merges;
 
 pub struct Answered {
     pub case: Case,
-    pub answer: &'static str,
+    /// The whole answer.
+    pub answer: String,
 }
 
 type Node = [u32; 4];
@@ -53,6 +58,7 @@ fn answered(table: Vec<u8>, values: Vec<u8>, budget: u32, answer: &'static str) 
         values,
         budget,
     };
+    let answer = answer.to_string();
     Answered { case, answer }
 }
 

@@ -263,7 +263,7 @@ impl Run<'_> {
 }
 
 /// Refusal 15: whether some instance of the kind's typing rule fits.
-fn fits(kind: Kind, operands: &[Value]) -> bool {
+pub fn fits(kind: Kind, operands: &[Value]) -> bool {
     let mut found = Unknowns {
         t: Shape::Hole,
         u: Shape::Hole,

@@ -1,8 +1,9 @@
 //! Reference implementation of document 01, written from that document alone.
 //!
 //! `table` reads bytes (refusals 1 to 9), `check` types a table (10 to 13),
-//! `evaluate` runs it (14 to 19). `generate` makes seeded cases and `batch`
-//! writes and answers them.
+//! `evaluate` runs it (14 to 19), `merge` unites two values and counts the
+//! comparisons. `generate` makes seeded cases and `batch` writes and answers
+//! them.
 
 pub mod batch;
 pub mod build;
@@ -14,6 +15,7 @@ pub mod former;
 pub mod generate;
 pub mod kinds;
 pub mod listing;
+pub mod merge;
 pub mod random;
 pub mod rules;
 pub mod stats;

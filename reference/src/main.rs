@@ -8,9 +8,9 @@ use std::io::{self, BufWriter, Read, Write};
 use std::process::ExitCode;
 
 const USAGE: &str = "usage:
-  reference batch --seed S --count N --stdin FILE --stdout FILE [--class NAME]
-  reference cases --seed S --count N [--small] [--class NAME]
-  reference stats --seed S --count N [--small] [--class NAME]
+  reference batch --seed S --count N [--merges M] --stdin FILE --stdout FILE [--class NAME]
+  reference cases --seed S --count N [--merges M] [--small] [--class NAME]
+  reference stats --seed S --count N [--merges M] [--small] [--class NAME]
   reference listings --seed S --count N
   reference answers    (a batch on standard input)
   reference listing    (a table on standard input)
@@ -49,10 +49,13 @@ fn run(arguments: &[String]) -> Result<(), Fault> {
         return Err(Fault::Usage("a command is missing".to_string()));
     };
     match command.as_str() {
-        "batch" => write_batch(&Options::parse(rest, &["--stdin", "--stdout"], false)?),
-        "cases" => print_cases(&Options::parse(rest, &[], true)?),
+        "batch" => {
+            let own = ["--merges", "--stdin", "--stdout"];
+            write_batch(&Options::parse(rest, &own, false)?)
+        }
+        "cases" => print_cases(&Options::parse(rest, &["--merges"], true)?),
         "listings" => print_listings(&Options::parse(rest, &[], false)?),
-        "stats" => print_stats(&Options::parse(rest, &[], true)?),
+        "stats" => print_stats(&Options::parse(rest, &["--merges"], true)?),
         "answers" | "listing" if !rest.is_empty() => {
             Err(Fault::Usage(format!("{command} takes no arguments")))
         }
@@ -66,6 +69,8 @@ fn run(arguments: &[String]) -> Result<(), Fault> {
 struct Options {
     seed: Option<u64>,
     count: Option<usize>,
+    /// Merges, after the others.
+    merges: usize,
     class: Option<Class>,
     small: bool,
     stdin: Option<String>,
@@ -73,7 +78,8 @@ struct Options {
 }
 
 impl Options {
-    fn parse(words: &[String], files: &[&str], small: bool) -> Result<Options, Fault> {
+    /// `own` are the command's options beside those that all have.
+    fn parse(words: &[String], own: &[&str], small: bool) -> Result<Options, Fault> {
         let mut found = Options::default();
         let mut words = words.iter();
         while let Some(name) = words.next() {
@@ -82,13 +88,14 @@ impl Options {
                 continue;
             }
             let known = ["--seed", "--count", "--class"].contains(&name.as_str());
-            if !known && !files.contains(&name.as_str()) {
+            if !known && !own.contains(&name.as_str()) {
                 return Err(Fault::Usage(format!("unknown option {name:?}")));
             }
             let missing = || Fault::Usage(format!("{name} needs a value"));
             found.set(name, words.next().ok_or_else(missing)?)?;
         }
-        let complete = files.is_empty() || (found.stdin.is_some() && found.stdout.is_some());
+        let files = found.stdin.is_some() && found.stdout.is_some();
+        let complete = files || !own.contains(&"--stdin");
         if found.seed.is_none() || found.count.is_none() || !complete {
             return Err(Fault::Usage("an option is missing".to_string()));
         }
@@ -100,6 +107,7 @@ impl Options {
         match name {
             "--seed" => self.seed = Some(value.parse().map_err(|_| wrong())?),
             "--count" => self.count = Some(value.parse().map_err(|_| wrong())?),
+            "--merges" => self.merges = value.parse().map_err(|_| wrong())?,
             "--class" => self.class = Some(Class::from_name(value).ok_or_else(wrong)?),
             "--stdin" => self.stdin = Some(value.to_string()),
             _ => self.stdout = Some(value.to_string()),
@@ -139,6 +147,9 @@ fn write_batch(options: &Options) -> Result<(), Fault> {
     let mut batch = example_cases();
     batch.extend(cases::all().into_iter().map(|answered| answered.case));
     batch.extend((0..options.count()).map(|_| generator.batch_case()));
+    // Behind all others, so that those stay as they are.
+    batch.extend(cases::merges().into_iter().map(|answered| answered.case));
+    batch.extend((0..options.merges).map(|_| generator.merge_case()));
     let (bytes, text) = batch::make(&batch);
     std::fs::write(options.stdin.as_deref().unwrap_or_default(), bytes)?;
     std::fs::write(options.stdout.as_deref().unwrap_or_default(), text)?;
@@ -150,6 +161,9 @@ fn print_cases(options: &Options) -> Result<(), Fault> {
     let mut out = BufWriter::new(io::stdout().lock());
     for _ in 0..options.count() {
         writeln!(out, "{}", generator.case().line())?;
+    }
+    for _ in 0..options.merges {
+        writeln!(out, "{}", generator.merge_case().line())?;
     }
     out.flush()?;
     Ok(())
@@ -175,6 +189,9 @@ fn print_stats(options: &Options) -> Result<(), Fault> {
     let mut stats = Stats::default();
     for _ in 0..options.count() {
         stats.add(&generator.case());
+    }
+    for _ in 0..options.merges {
+        stats.add(&generator.merge_case());
     }
     print_text(&stats.text())
 }

@@ -21,6 +21,7 @@ impl Stats {
             Case::Read { .. } => "read",
             Case::Check { .. } => "check",
             Case::Evaluate { .. } => "evaluate",
+            Case::Merge { .. } => "merge",
         };
         let answer = case.answer();
         let words: Vec<&str> = answer.split(' ').collect();

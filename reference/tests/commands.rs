@@ -21,7 +21,7 @@ fn run(arguments: &[&str], input: &[u8]) -> Output {
 
 #[test]
 fn bad_arguments_end_with_status_2() {
-    let bad: [&[&str]; 9] = [
+    let bad: [&[&str]; 11] = [
         &[],
         &["other"],
         &["cases"],
@@ -30,6 +30,8 @@ fn bad_arguments_end_with_status_2() {
         &["cases", "--seed", "1", "--count"],
         &["stats", "--seed", "1", "--count", "1", "--class", "none"],
         &["batch", "--seed", "1", "--count", "1", "--stdin", "a"],
+        &["cases", "--seed", "1", "--count", "1", "--merges", "x"],
+        &["listings", "--seed", "1", "--count", "1", "--merges", "1"],
         &["answers", "more"],
     ];
     for arguments in bad {
@@ -50,13 +52,14 @@ fn the_listing_of_p1() {
 }
 
 /// The two files that `batch` writes.
-fn written(seed: &str, count: &str) -> (Vec<u8>, Vec<u8>) {
+fn written(seed: &str, count: &str, merges: &str) -> (Vec<u8>, Vec<u8>) {
     let name = format!("reference-batch-{}-{seed}", std::process::id());
     let folder = std::env::temp_dir().join(name);
     std::fs::create_dir_all(&folder).expect("a folder for the files");
     let (stdin, stdout) = (folder.join("in"), folder.join("out"));
     let names = [stdin.to_string_lossy(), stdout.to_string_lossy()];
     let mut arguments = vec!["batch", "--seed", seed, "--count", count];
+    arguments.extend(["--merges", merges]);
     arguments.extend(["--stdin", &names[0], "--stdout", &names[1]]);
     assert!(run(&arguments, &[]).status.success());
     let batch = std::fs::read(&stdin).expect("the batch is there");
@@ -67,10 +70,11 @@ fn written(seed: &str, count: &str) -> (Vec<u8>, Vec<u8>) {
 
 #[test]
 fn a_written_batch_is_answered_alike() {
-    let (batch, expected) = written("9", "300");
+    let (batch, expected) = written("9", "300", "50");
     assert_eq!(run(&["answers"], &batch).stdout, expected);
     let text = String::from_utf8_lossy(&expected);
-    assert_eq!(text.lines().count(), 40 + cases::all().len() + 300);
+    let fixed = 40 + cases::all().len() + cases::merges().len();
+    assert_eq!(text.lines().count(), fixed + 300 + 50);
     assert!(text.starts_with("accepted 10 10 0310 p\ntrue 3\nrefused 12 0\n"));
 }
 
@@ -78,24 +82,26 @@ fn a_written_batch_is_answered_alike() {
 #[test]
 fn the_stored_batch_is_of_this_reference() {
     let stored = |name| std::fs::read(format!("../crates/answers/{name}")).expect("it is stored");
-    let (batch, expected) = written("107", "2970");
+    let (batch, expected) = written("107", "2970", "300");
     assert!(batch == stored("stdin"), "stdin differs");
     assert!(expected == stored("stdout"), "stdout differs");
 }
 
 #[test]
 fn cases_have_the_stated_form() {
-    let output = run(&["cases", "--seed", "3", "--count", "90", "--small"], &[]);
+    let count = ["--count", "90", "--merges", "30", "--small"];
+    let output = run(&[&["cases", "--seed", "3"], &count[..]].concat(), &[]);
     let text = String::from_utf8_lossy(&output.stdout);
-    assert_eq!(text.lines().count(), 90);
-    for line in text.lines() {
+    assert_eq!(text.lines().count(), 120);
+    for (number, line) in text.lines().enumerate() {
         let words: Vec<&str> = line.split(' ').collect();
-        let answer = match words[0] {
-            "read" => words[2],
-            "check" => words[3],
-            _ => words[4],
+        assert_eq!(words[0] == "merge", number >= 90);
+        let (answer, known): (&str, &[&str]) = match words[0] {
+            "read" => (words[2], &["readable", "refused"]),
+            "check" => (words[3], &["accepted", "refused"]),
+            "merge" => (words[3], &["merged", "heavy", "unfit", "refused"]),
+            _ => (words[4], &["true", "false", "refused"]),
         };
-        let known = ["readable", "accepted", "refused", "true", "false"];
         assert!(known.contains(&answer), "{line}");
     }
 }

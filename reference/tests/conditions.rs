@@ -95,7 +95,8 @@ fn a_gate_with_no_clauses_is_listed_in_one_line() {
 
 #[test]
 fn every_further_case_has_its_answer() {
-    for (i, answered) in cases::all().iter().enumerate() {
-        assert_eq!(answered.case.answer(), answered.answer, "case {i}");
+    let cases = cases::all().into_iter().chain(cases::merges());
+    for (i, answered) in cases.enumerate() {
+        assert_eq!(answered.case.whole_answer(), answered.answer, "case {i}");
     }
 }

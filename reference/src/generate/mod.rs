@@ -4,9 +4,11 @@ mod boundary;
 mod buffers;
 mod damage;
 mod groups;
+mod merges;
 mod sized;
 mod templates;
 mod typed;
+mod unions;
 
 use crate::batch::Case;
 use crate::build::Draft;
@@ -100,6 +102,8 @@ impl Condition {
 
 pub struct Generator {
     rng: Random,
+    /// The numbers of the merges alone.
+    merging: Random,
     /// Only cases that a slow proof assistant can compute.
     small: bool,
     /// Only this class, if any.
@@ -109,6 +113,7 @@ pub struct Generator {
 
 /// Limits of the small mode.
 const SMALL_NODES: usize = 14;
+const SMALL_TABLE: usize = 32 + 4 * 8 + 16 * SMALL_NODES;
 const SMALL_VALUES: usize = 12 * 8;
 const SMALL_INTERVAL: i64 = 12;
 const SMALL_STEPS: u32 = 200;
@@ -118,6 +123,7 @@ impl Generator {
     pub fn new(seed: u64, small: bool, only: Option<Class>) -> Generator {
         Generator {
             rng: Random::new(seed),
+            merging: Random::new(!seed),
             small,
             only,
             made: 0,
@@ -350,9 +356,8 @@ fn evaluating(sample: Sample) -> Case {
 }
 
 fn is_small(sample: &Sample) -> bool {
-    let most = 32 + 4 * 8 + 16 * SMALL_NODES;
     let many = table::read(&sample.table).is_ok_and(|table| table.nodes.len() > SMALL_NODES);
-    if many || sample.table.len() > most || sample.values.len() > SMALL_VALUES {
+    if many || sample.table.len() > SMALL_TABLE || sample.values.len() > SMALL_VALUES {
         return false;
     }
     let budget = sample.budget.min(SMALL_STEPS + 1);
