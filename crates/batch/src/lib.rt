@@ -20,6 +20,19 @@ pub fn print_refusal(r: Refusal) {
     io::print_decimal(STDOUT_FILENO, r.place as u64);
 }
 
+// The first n bytes, or all if there are fewer, in hexadecimal.
+pub fn print_bytes(bytes: &[u8], n: usize) {
+    let mut i: usize = 0;
+    while i < bytes.len() {
+        if i == n {
+            break;
+        }
+        let byte = table::wide(bytes[i]);
+        io::print_hex(STDOUT_FILENO, byte as u64, 2);
+        i += 1;
+    }
+}
+
 // The codes of a row without its fill, or p for a row that has none.
 fn print_row(row: &[u8]) {
     say(b" ");
