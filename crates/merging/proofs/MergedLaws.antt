@@ -46,7 +46,8 @@ all-fit (v ∷ vs) h = (h .0, all-fit vs (h .1))
 
 -- The cells of what is merged fit.
 pub merged-fits : (l b r : Bool) (vs ws : Values) → AllFit vs → AllFit ws → AllFit (values (merged l b r (members vs) (members ws)))
-merged-fits l b r vs ws h k = all-fit (merged l b r (members vs) (members ws)) (merged-all CellsFit l b r (members vs) (members ws) (fit-all vs h) (fit-all ws k))
+merged-fits l b r vs ws h k =
+    all-fit (merged l b r (members vs) (members ws)) (merged-all CellsFit l b r (members vs) (members ws) (fit-all vs h) (fit-all ws k))
 
 -- Union.
 
