@@ -38,8 +38,8 @@ not-pow e = absurd01 (cc e)
 
 module _ {gs : List ℕ} (small : Sizes gs) where
   -- Two values of a type POW(t) are sets.
-  sets-agree : (t : Ty) (v w : Value) → HasType v (POW t) → HasType w (POW t) → T (good gs v) → T (good gs w) → fits (twoRule union .takes) (v ∷ w ∷ []) ≡ true →
-      givenBy (unionOf v w) ≡ twoGiven union v w
+  sets-agree : (t : Ty) (v w : Value) → HasType v (POW t) → HasType w (POW t) → T (good gs v) → T (good gs w) →
+      fits (twoRule union .takes) (v ∷ w ∷ []) ≡ true → givenBy (unionOf v w) ≡ twoGiven union v w
   unfolding unionOf twoGiven
   sets-agree t (scalar x) w h k g g′ e = absurd (not-pow h)
   sets-agree t (pair x y) w h k g g′ e = absurd h
