@@ -17,6 +17,7 @@ use Rattle.reading.specs.Answers.{readingOf}
 use Rattle.reading.specs.declared.Reading.{Reading}
 use Rattle.reading.specs.declared.Reading.the-variants.{Refused as Unreadable}
 use Rattle.reading.specs.declared.Refusal.{Refusal}
+use Rattle.buffer.specs.Buffer.{cellsAtMost}
 use Rattle.buffer.specs.Loaded.{Bound, Loads}
 use Rattle.buffer.specs.declared.Loaded.{Loaded}
 use Rattle.buffer.specs.declared.Loaded.the-variants.{All, Refused as Lacking}
@@ -91,6 +92,11 @@ module _ {bs : List ℕ} (readable : Readable bs) where
         both-told u =
             rw (union-read, two-free (tableOf bs .binds) (b .values) even h k (omega (arith, binds-length bs)))
             (u (tableOf bs .sizes) _ _ (sizes-small bs readable) left right)
+
+-- An arena with room for the values, the cell of an identifier without one, and a merge.
+pub arena-fits : {bs values s : List ℕ} → Readable bs → 1 + cellsAtMost (identifierCount bs) (length values) + 514 ≤ length s → length s < 4294967296 →
+    ArenaFits bs values s
+arena-fits q l k = record { load = record { readable = q; room = omega arith; small = k }; room = l }
 
 -- The values have been read into an arena that fits them.
 module _ {bs values s s′ env : List ℕ} (p : ArenaFits bs values s) (kept : length s′ ≡ length s) {a : Loaded} {top : ℕ}

@@ -1,6 +1,7 @@
 -- `merge_large`: the arena has room for the values of 32 identifiers and a merge.
 use native.Mathlib.Omega.{arith}
 use borrow.Author.Needs.{needs}
+use Rattle.unions.proofs.LoadedLaws.{arena-fits}
 use Rattle.unions.proofs.merge_large.Statement.{statement}
 use Rattle.unions.proofs.merge_large.Tie as tie
 
@@ -12,10 +13,6 @@ merge-large-spec =
     tie.close
     (tie.spec
     (λ c. search needs)
-    (λ c κs. let k = lent (c .before .before) in
-    record {
-      load = record { readable = k .pre; room = omega (arith, k .pre .header .identifiers); small = omega arith };
-      room = omega (arith, k .pre .header .identifiers);
-    })
+    (λ c κs. let q = lent (c .before .before) .pre in arena-fits (q) (omega (arith, q .header .identifiers)) (omega arith))
     (λ c. search needs)
     (λ c. search needs))

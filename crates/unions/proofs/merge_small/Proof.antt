@@ -1,6 +1,7 @@
 -- `merge_small`: the arena has room for 512 cells and a merge.
 use native.Mathlib.Omega.{arith}
 use borrow.Author.Needs.{needs}
+use Rattle.unions.proofs.LoadedLaws.{arena-fits}
 use Rattle.unions.proofs.merge_small.Statement.{statement}
 use Rattle.unions.proofs.merge_small.Tie as tie
 
@@ -12,10 +13,6 @@ merge-small-spec =
     tie.close
     (tie.spec
     (λ c. search needs)
-    (λ c κs. let k = lent (c .before .before) in
-    record {
-      load = record { readable = k .pre .0; room = omega (arith, k .pre .1); small = omega arith };
-      room = omega (arith, k .pre .1);
-    })
+    (λ c κs. let q = lent (c .before .before) .pre in arena-fits (q .0) (omega (arith, q .1)) (omega arith))
     (λ c. search needs)
     (λ c. search needs))
