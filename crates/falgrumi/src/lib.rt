@@ -176,9 +176,9 @@ pub extern "C" fn falgrumi_merge(
     *comparisons = 0;
     *bytes = 0;
     match answer {
-        MergeAnswer::Refused(r) => {
-            *place = r.place as u64;
-            reports::number_byte(r.number)
+        MergeAnswer::Refused(refusal) => {
+            *place = refusal.place as u64;
+            reports::number_byte(refusal.number)
         }
         MergeAnswer::Unfit => 15,
         MergeAnswer::Heavy(n) => {
