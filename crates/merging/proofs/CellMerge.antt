@@ -2,7 +2,7 @@
 -- behind it (`cell-put`); so a turn at two cells is a turn of the merge (`merge-step`). What comes before the other set's first cell is
 -- so many turns on one side (`taken`), with which the merge begins (`merge-start`).
 use Rattle.sets.proofs.Base.{ℕ, zero, suc, _+_, _*_, _-_, _≤_, _<_, Ordering·lt, Ordering·gt, Bool, true, false, cond, List, [], _∷_, _++_, append-assoc, _⊎_, inl, inr, _≡_, refl, sym, ap, _∙_, subst, arith, decLt, length, getD, setAt, length-set, getD-set-same, getD-set-other, le-leb, lt-leb, boolByte}
-use Rattle.merging.proofs.Terms.{Value, Values, none, _▸_, members, count, weight, weights, order, keptValue, code, codes, ValuesAt, Same, EndsAt, Front, Out, Walk, CellTurn, merged, comparisons, TurnAt, Cells, PutPre, PutBehind, Merging, EndPre, Ended, RunsMerge, Walking, CellTurned, RowsBelow, Ahead, RowMerge}
+use Rattle.merging.proofs.Terms.{Value, Values, none, _▸_, members, count, weight, weights, order, keptValue, code, codes, ValuesAt, Same, EndsAt, Front, Out, Walk, CellTurn, merged, comparisons, TurnAt, Cells, PutPre, PutBehind, Merging, EndPre, Ended, RunsMerge, Walking, CellTurned, RowsBelow, Ahead, RowMerge, SomeRowMerge, RowsWalked, Place}
 use Rattle.laws.proofs.CellsLaws.{count-weights}
 use Rattle.laws.proofs.OrderLaws.{flip, order-flip, lt-compare}
 use Rattle.arena.proofs.CodeLaws.{length-code, length-codes}
@@ -167,7 +167,7 @@ module _ {s : List ℕ} {a m b n top : ℕ} (below : RowsBelow s a m b n top) {p
             compared = omega (arith, t .compared, u .compared);
           }
 
-      pub merge-start : (e : Bool) → RowMerge l e r s a m b n top s″ (a + p) (b + q) (o′ .to) ((a + p - a) + (b + q - b))
+      pub merge-start : (e : Bool) → RowMerge l e r s a m b n top s″ (a + p) (b + q) (o′ .to) (p + q)
       merge-start e =
           let x = counts in
           let y = put′ .even (omega arith) in
@@ -181,13 +181,27 @@ module _ {s : List ℕ} {a m b n top : ℕ} (below : RowsBelow s a m b n top) {p
             turned = omega arith;
             walking = record {
               frame = frame′;
-              on = rw (
-                let z : a + m - (a + p) ≡ m - p = omega arith in z,
-                let z : b + n - (b + q) ≡ n - q = omega arith in z,
-                let z : (a + p - a) + (b + q - b) ≡ p + q = omega arith in z,
-              ) (fronts-merging e);
+              on = rw (let z : a + m - (a + p) ≡ m - p = omega arith in z, let z : b + n - (b + q) ≡ n - q = omega arith in z) (fronts-merging e);
             };
           }
+
+-- The merge after the walk from the fronts.
+pub rows-walked : {l e r : Bool} {s₀ s : List ℕ} {a m b n top : ℕ} {w : Place} {s′ : List ℕ} {w′ : Place} →
+    ((k : Bool) → RowMerge l k r s₀ a m b n top s (w .a) (w .b) (w .to) (w .turns)) → RowsWalked l e r s w (a + m) (b + n) s′ w′ →
+    RowMerge l e r s₀ a m b n top s′ (w′ .a) (w′ .b) (w′ .to) (w′ .turns) × ((a + m ≤ w′ .a) ⊎ (b + n ≤ w′ .b))
+rows-walked {e = e} f d = d .on _ _ _ _ _ _ (f e) refl refl
+
+-- Where all three are kept, what is said of a union is said of the merge, both ways.
+module _ {l e r : Bool} (x : l ≡ true) (y : e ≡ true) (z : r ≡ true) {s : List ℕ} {w : Place} {end end2 : ℕ} where
+  pub union-ready : SomeRowMerge l e r s w end end2 → SomeRowMerge true true true s w end end2
+  union-ready h =
+      subst (λ (c : Bool). SomeRowMerge true true c s w end end2) z
+      (subst (λ (c : Bool). SomeRowMerge true c r s w end end2) y (subst (λ (c : Bool). SomeRowMerge c e r s w end end2) x h))
+
+  pub union-walked : {s′ : List ℕ} {w′ : Place} → RowsWalked true true true s w end end2 s′ w′ → RowsWalked l e r s w end end2 s′ w′
+  union-walked {s′} {w′} h =
+      subst (λ (c : Bool). RowsWalked c e r s w end end2 s′ w′) (sym x)
+      (subst (λ (c : Bool). RowsWalked true c r s w end end2 s′ w′) (sym y) (subst (λ (c : Bool). RowsWalked true true c s w end end2 s′ w′) (sym z) h))
 
 -- A merge on its way.
 module _ {l e r : Bool} {s₀ : List ℕ} {a m b n top : ℕ} {s : List ℕ} {i j to turns : ℕ}

@@ -10,10 +10,11 @@ pub use Rattle.sets.specs.Fronts.{Cells, RunEnds, TurnAt, TwoRuns, firstOf, kee
 pub use Rattle.sets.specs.declared.Turn.{Turn}
 unfoldable pub use Rattle.rules.specs.Merges.{merged, comparisons}
 pub use Rattle.rules.specs.Merges.{turned, comparedNext}
-pub use Rattle.merging.specs.RowMerges.{Ahead, CellTurned, RowMerge, RowsBelow}
+pub use Rattle.merging.specs.RowMerges.{Ahead, CellTurned, RowMerge, RowsBelow, RowsWalked, SomeRowMerge}
 pub use Rattle.merging.specs.Walks.{BuiltTo, Compares, EndPre, Ended, MergeMade, Merges, Merging, PutBehind, PutPre, RestOf, RestThere, RunsMerge, SomeRuns, StepPre, Stepped, Walking}
 pub use Rattle.merging.specs.declared.CellTurn.{CellTurn}
 pub use Rattle.merging.specs.declared.Out.{Out}
 pub use Rattle.merging.specs.declared.Pass.{Pass}
+pub use Rattle.merging.specs.declared.Place.{Place}
 pub use Rattle.merging.specs.declared.Rest.{Rest}
 pub use Rattle.merging.specs.declared.Walk.{Walk}

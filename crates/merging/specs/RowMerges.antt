@@ -2,6 +2,7 @@
 use Prim.Native.Nat.{ℕ, _+_, _*_, _-_, _≤_, _<_}
 use mathlib.Core.Bool.{Bool}
 use mathlib.Core.List.{List}
+use mathlib.Core.Logic.{_⊎_}
 use mathlib.Core.Path.{_≡_}
 use lib.Dec.{leb}
 use lib.ListN.{length, getD}
@@ -46,6 +47,24 @@ pub record RowMerge (l e r : Bool) (s₀ : List ℕ) (a m b n top : ℕ) (s : Li
   pub turned : turns ≤ (i - a) + (j - b)
   pub walking : Walking l e r s₀ a m b n top s (record { a = i; m = a + m - i; b = j; n = b + n - j; to = to; count = count; turns = turns })
 
--- The merge with which `merge_cells` goes on from w, whether it keeps cells of both sets or not: each cell that has been passed is a turn.
+-- The merge with which `merge_cells` goes on from w, whether it keeps cells of both sets or not.
 abbrev pub FrontsMerge : Bool → Bool → List ℕ → ℕ → ℕ → ℕ → ℕ → ℕ → List ℕ → Place → Type 0
-FrontsMerge l r s a m b n top s′ w = (e : Bool) → RowMerge l e r s a m b n top s′ (w .a) (w .b) (w .to) ((w .a - a) + (w .b - b))
+FrontsMerge l r s a m b n top s′ w = (e : Bool) → RowMerge l e r s a m b n top s′ (w .a) (w .b) (w .to) (w .turns)
+
+-- Some merge has come to w; its rows end at `end` and `end2`.
+pub record SomeRowMerge (l e r : Bool) (s : List ℕ) (w : Place) (end end2 : ℕ) : Type 0 where
+  pub start : List ℕ
+  pub a : ℕ
+  pub m : ℕ
+  pub b : ℕ
+  pub n : ℕ
+  pub top : ℕ
+  pub merge : RowMerge l e r start a m b n top s (w .a) (w .b) (w .to) (w .turns)
+  pub ends : end ≡ a + m
+  pub ends2 : end2 ≡ b + n
+
+-- Each merge that had come to w has come to w′, and one of its rows is exhausted.
+pub record RowsWalked (l e r : Bool) (s : List ℕ) (w : Place) (end end2 : ℕ) (s′ : List ℕ) (w′ : Place) : Type 0 where
+  pub kept : length s′ ≡ length s
+  pub on : (s₀ : List ℕ) (a m b n top : ℕ) → RowMerge l e r s₀ a m b n top s (w .a) (w .b) (w .to) (w .turns) → end ≡ a + m → end2 ≡ b + n →
+      RowMerge l e r s₀ a m b n top s′ (w′ .a) (w′ .b) (w′ .to) (w′ .turns) × ((a + m ≤ w′ .a) ⊎ (b + n ≤ w′ .b))

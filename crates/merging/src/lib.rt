@@ -7,7 +7,7 @@ ghost use Rattle.arena.specs.Code.{SomeSet};
 ghost use Rattle.sets.specs.Fronts.{RunEnds};
 ghost use Rattle.merging.specs.Walks.{PutPre, PutBehind, RestThere, StepPre, Stepped, RestOf, EndPre, Ended, SomeRuns, Compares, RunsBelow, RunsMerge, Merges};
 ghost use Rattle.sets.specs.Rows.{Row};
-ghost use Rattle.merging.specs.RowMerges.{Kept, CellTurned, RowsBelow, Ahead, FrontsMerge};
+ghost use Rattle.merging.specs.RowMerges.{Kept, CellTurned, RowsBelow, Ahead, FrontsMerge, SomeRowMerge, RowsWalked};
 
 // Where the members that have been built end, and their number.
 struct Out {
@@ -32,11 +32,12 @@ pub struct Pass {
     pub comparisons: u64,
 }
 
-// Where a merge of cells stands: at a in one set and at b in the other, and what has been built ends at `to`.
+// Where a merge of cells stands: at a in one set and at b in the other, what has been built ends at `to`, and the comparisons made.
 struct Place {
     a: usize,
     b: usize,
     to: usize,
+    turns: usize,
 }
 
 // What is kept of the rest of one set.
@@ -218,7 +219,8 @@ fn front(s: &[u64], a: usize, m: usize, b: usize, n: usize) -> usize
     0
 }
 
-// What comes before the other set's first cell is taken or left as a whole, first of m cells from a on, then of n from b on.
+// What comes before the other set's first cell is taken or left as a whole, first of m cells from a on, then of n from b on. Each cell is a
+// comparison.
 fn merge_fronts(
     s: &mut [u64],
     a: usize,
@@ -246,11 +248,63 @@ fn merge_fronts(
         a: i,
         b: j,
         to: o2.to,
+        turns: p + q,
     }
 }
 
-// Builds at top the set as `merge` does, of m cells from a on and n from b on. The cell of a turn is stored whether it is kept or not. Each cell
-// that `merge_fronts` has passed is a comparison.
+// Goes on from w, cell by cell, up to the end of one of the sets. The cell of a turn is stored whether it is kept or not.
+fn walk_rows(
+    s: &mut [u64],
+    w: Place,
+    end: usize,
+    end2: usize,
+    left: bool,
+    both: bool,
+    right: bool,
+) -> Place
+    requires { ⌜ SomeRowMerge left both right (now s) w end end2 ⌝ }
+    ensures { λ r. ⌜ RowsWalked left both right (now (s .entry)) w end end2 (now (s .exit)) r ⌝ }
+{
+    let mut i = w.a;
+    let mut j = w.b;
+    let mut to = w.to;
+    let mut turns = w.turns;
+    while i < end && j < end2 {
+        let t = cell_turn(s[i], s[j], left, both, right);
+        s[to] = t.cell;
+        to += t.keep;
+        i += t.left;
+        j += t.right;
+        turns += 1;
+    }
+    Place {
+        a: i,
+        b: j,
+        to: to,
+        turns: turns,
+    }
+}
+
+// The same. A union keeps the cell of every turn: called with constants, it has a loop of its own, in which `to` counts the turns.
+fn walk_by_kind(
+    s: &mut [u64],
+    w: Place,
+    end: usize,
+    end2: usize,
+    left: bool,
+    both: bool,
+    right: bool,
+) -> Place
+    requires { ⌜ SomeRowMerge left both right (now s) w end end2 ⌝ }
+    ensures { λ r. ⌜ RowsWalked left both right (now (s .entry)) w end end2 (now (s .exit)) r ⌝ }
+{
+    if left && both && right {
+        return walk_rows(s, w, end, end2, true, true, true);
+    }
+    walk_rows(s, w, end, end2, left, both, right)
+}
+
+// Builds at top the set as `merge` does, of m cells from a on and n from b on.
 fn merge_cells(
     s: &mut [u64],
     a: usize,
@@ -268,30 +322,19 @@ fn merge_cells(
     let end = a + m;
     let end2 = b + n;
     let w = merge_fronts(s, a, m, b, n, top, left, right);
-    let mut i = w.a;
-    let mut j = w.b;
-    let mut to = w.to;
-    let mut turns = i - a + (j - b);
-    while i < end && j < end2 {
-        let t = cell_turn(s[i], s[j], left, both, right);
-        s[to] = t.cell;
-        to += t.keep;
-        i += t.left;
-        j += t.right;
-        turns += 1;
-    }
+    let v = walk_by_kind(s, w, end, end2, left, both, right);
     let rest = Walk {
-        a: i,
-        m: (end - i) as u64,
-        b: j,
-        n: (end2 - j) as u64,
-        to: to,
-        count: (to - top - 1) as u64,
-        turns: turns as u64,
+        a: v.a,
+        m: (end - v.a) as u64,
+        b: v.b,
+        n: (end2 - v.b) as u64,
+        to: v.to,
+        count: (v.to - top - 1) as u64,
+        turns: v.turns as u64,
     };
     Pass {
         end: finish(s, rest, top, left, right, true),
-        comparisons: turns as u64,
+        comparisons: v.turns as u64,
     }
 }
 

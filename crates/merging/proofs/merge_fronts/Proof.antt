@@ -1,7 +1,7 @@
 -- `merge_fronts`: the cells of one set before the first of the other are its turns of the merge, one after the other.
 use Rattle.sets.proofs.Base.{needs, arith}
 use Rattle.sets.proofs.RowLaws.{cells-row}
-use Rattle.merging.proofs.CellMerge.{first-put, second-put, merge-start}
+use Rattle.merging.proofs.CellMerge.{rows-small, first-put, second-put, merge-start}
 use Rattle.merging.proofs.merge_fronts.Statement.{statement}
 use Rattle.merging.proofs.merge_fronts.Tie as tie
 
@@ -37,6 +37,9 @@ merge-fronts-spec =
     let g = fronts o in
     let f = known g in
     second-put (lent f .pre) (f .front .ensures) (g .front2 .ensures) (o .put .ensures))
+    (λ c. let g = fronts (put (c .before .before .before)) in
+    let f = known g in
+    omega (arith, f .front .ensures .few, g .front2 .ensures .few, rows-small (lent f .pre)))
     (λ c. search needs)
     (λ c. let p = c .before .before in
     let o = put (p .before) in
