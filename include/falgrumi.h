@@ -12,9 +12,8 @@
  * Threads. Nothing is kept between calls, and there is no shared state: calls may run at the same time, if no one writes
  *   what another reads or writes.
  * Stack. The functions allocate nothing and work on the caller's stack. The most that was measured (x86-64; tall tables over
- *   deeply nested values, deep types, and generated ones) is 79 KB for falgrumi_check and 191 KB for falgrumi_evaluate.
- *   falgrumi_checked_evaluate takes what the larger of its calls takes, and falgrumi_merge less than falgrumi_evaluate: its
- *   values lie in at most 8,707 cells of 8 bytes, 70 KB. Lend 0.3 MB.
+ *   deeply nested values, deep types, and generated ones) is 79 KB for falgrumi_check, 191 KB for falgrumi_evaluate and 99 KB
+ *   for falgrumi_merge. falgrumi_checked_evaluate takes what the larger of its calls takes. Lend 0.3 MB.
  * Bytes. A word is 4 bytes, least byte first. */
 #ifndef FALGRUMI_H
 #define FALGRUMI_H

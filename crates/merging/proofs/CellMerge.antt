@@ -178,7 +178,7 @@ module _ {s : List ℕ} {a m b n top : ℕ} (below : RowsBelow s a m b n top) {p
             count = o′ .count;
             countIs = omega arith;
             few = omega (arith, put′ .near);
-            turned = omega arith;
+            fewTurns = omega arith;
             walking = record {
               frame = frame′;
               on = rw (let z : a + m - (a + p) ≡ m - p = omega arith in z, let z : b + n - (b + q) ≡ n - q = omega arith in z) (fronts-merging e);
@@ -219,7 +219,7 @@ module _ {l e r : Bool} {s₀ : List ℕ} {a m b n top : ℕ} {s : List ℕ} {i 
   -- A turn at two sets that both have cells left.
   module _ (some : i < a + m) (some′ : j < b + n) where
     pub merge-inside : (i < top) × (j < top) × (to < length s) × (to + 1 ≤ top + 512) × (turns ≤ 510)
-    merge-inside = omega (arith, rows-small (h .below), h .below .room, h .walking .frame .kept, h .few, h .countIs, h .turned)
+    merge-inside = omega (arith, rows-small (h .below), h .below .room, h .walking .frame .kept, h .few, h .countIs, h .fewTurns)
 
     ends : EndsAt s i (i + 1)
     ends = cells-first left-cells (omega arith)
@@ -241,7 +241,7 @@ module _ {l e r : Bool} {s₀ : List ℕ} {a m b n top : ℕ} {s : List ℕ} {i 
           count = h .count + boolByte keep;
           countIs = omega (arith, h .countIs);
           few = omega (arith, h .few, h .onLeft, h .onRight);
-          turned = omega (arith, h .turned, h .onLeft, h .onRight);
+          fewTurns = omega (arith, h .fewTurns, h .onLeft, h .onRight);
           walking = record {
             frame = same-trans top top s₀ s _ (h .walking .frame) (store-frame s to (getD s from 0) (omega (arith, h .countIs))) (omega arith);
             on = λ vs ws f g.

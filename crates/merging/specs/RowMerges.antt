@@ -44,7 +44,7 @@ pub record RowMerge (l e r : Bool) (s₀ : List ℕ) (a m b n top : ℕ) (s : Li
   pub count : ℕ
   pub countIs : to ≡ top + 1 + count
   pub few : count ≤ (i - a) + (j - b)
-  pub turned : turns ≤ (i - a) + (j - b)
+  pub fewTurns : turns ≤ (i - a) + (j - b)
   pub walking : Walking l e r s₀ a m b n top s (record { a = i; m = a + m - i; b = j; n = b + n - j; to = to; count = count; turns = turns })
 
 -- The merge with which `merge_cells` goes on from w, whether it keeps cells of both sets or not.
