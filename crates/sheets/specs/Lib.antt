@@ -1,0 +1,3 @@
+-- What the functions over the places of a table say.
+pub mod Rows
+pub mod Steps

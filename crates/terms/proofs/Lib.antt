@@ -1,0 +1,3 @@
+-- Words taken apart and put together, and the terms that they hold.
+pub mod WordLaws
+pub mod TermLaws
