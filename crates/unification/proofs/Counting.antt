@@ -1,4 +1,4 @@
--- How many numbers below n pass a test: laws of the count.
+-- How many numbers below n pass a test: laws of the count, by induction on n with one law of `tally` for the step.
 use mathlib.Core.Path.{_≡_, refl, sym}
 use mathlib.Core.Bool.{Bool, true, false, true≢false}
 use Prim.Native.Nat.{ℕ, zero, suc, _≤_, _<_}
@@ -36,7 +36,8 @@ pub count-mono : (f h : ℕ → Bool) (n : ℕ) → ((i : ℕ) → i < n → f i
 count-mono f h zero m = le-refl 0
 count-mono f h (suc n) m = tally-mono (f n) (h n) (countBelow f n) (countBelow h n) (m n (omega arith)) (count-mono f h n (λ i l. m i (omega arith)))
 
-pub count-strict : (f h : ℕ → Bool) (n : ℕ) → ((i : ℕ) → i < n → f i ≡ true → h i ≡ true) → (j : ℕ) → j < n → f j ≡ false → h j ≡ true → countBelow f n < countBelow h n
+pub count-strict : (f h : ℕ → Bool) (n : ℕ) → ((i : ℕ) → i < n → f i ≡ true → h i ≡ true) →
+    (j : ℕ) → j < n → f j ≡ false → h j ≡ true → countBelow f n < countBelow h n
 count-strict f h zero m j l p q = absurd (not-suc-le-zero l)
 count-strict f h (suc n) m j l p q = go (ℕ-discrete j n) (λ l′. count-strict f h n (λ i k. m i (omega arith)) j l′ p q)
   where
@@ -58,6 +59,7 @@ pub count-some : (f : ℕ → Bool) (n : ℕ) → countBelow f n < n → (v : �
 count-some f zero h = absurd (not-suc-le-zero h)
 count-some f (suc n) h = go (f n) refl h (count-some f n)
   where
-    go : (b : Bool) → f n ≡ b → tally b (countBelow f n) < suc n → (countBelow f n < n → (v : ℕ) × (v < n) × (f v ≡ false)) → (v : ℕ) × (v < suc n) × (f v ≡ false)
+    go : (b : Bool) → f n ≡ b → tally b (countBelow f n) < suc n → (countBelow f n < n → (v : ℕ) × (v < n) × (f v ≡ false)) →
+        (v : ℕ) × (v < suc n) × (f v ≡ false)
     go true e k ih = let r = ih (omega arith) in (r .0, omega (arith, r .1), r .2)
     go false e k ih = (n, omega arith, e)

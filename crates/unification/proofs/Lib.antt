@@ -1,4 +1,4 @@
--- The mathematics of the solver, apart from its code.
+-- That the computed answer is right: one equation (Join, Merging, Step), the marks (Resolve, Sweeps), both together (Whole, ModelLaws).
 pub mod Join
 pub mod Merging
 pub mod Counting
@@ -6,9 +6,6 @@ pub mod Step
 pub mod Loops
 pub mod Resolve
 pub mod Sweeps
-pub mod Stack
-pub mod Marking
 pub mod Whole
-pub mod Rows
 pub mod ModelLaws
 pub mod Answers

@@ -1,4 +1,4 @@
--- One merge of two classes keeps exactly the solutions.
+-- One merge of two classes keeps exactly the solutions: `JoinOk` at the two classes, both ways, and nothing changes at the others.
 use mathlib.Core.Path.{_≡_, sym, _∙_}
 use mathlib.Core.Logic.{_↔_, _≢_}
 use mathlib.Core.List.{List}
@@ -84,21 +84,25 @@ module _ (θ : ℕ → Ty) (g h : Graph) (p q : ℕ) (p≢q : p ≢ q) (pp : g .
       fits-go v r (no n) (yes y) = rw y (both .1)
       fits-go v r (no n) (no o) = rw (m .rest v n o) at (s .fits v (m .miss v (λ f. n (sym r ∙ f)) ∙ r))
 
--- (1) the step: the equation a = b, in a graph where their classes differ
+-- the step: the equation a = b, in a graph where their classes differ
 abbrev pub StepOk : (θ : ℕ → Ty) (g h : Graph) (a b : ℕ) → List Eqn → Type 0
 StepOk θ g h a b es = (Sat θ g × (θ a ≡ θ b)) ↔ (Sat θ h × Holds θ es)
 
-pub step-ok : (θ : ℕ → Ty) (g h : Graph) (a b : ℕ) (es : List Eqn) → Idem g → g .cls a ≢ g .cls b
-    → join (g .sh (g .cls a)) (g .sh (g .cls b)) ≡ joined es → Merged g h (g .cls a) (g .cls b) → StepOk θ g h a b es
+classes-join : (θ : ℕ → Ty) (g : Graph) (a b : ℕ) → JoinOk θ (g .sh (g .cls a)) (g .sh (g .cls b)) (θ (g .cls b)) (join (g .sh (g .cls a)) (g .sh (g .cls b)))
+classes-join θ g a b = join-ok θ (g .sh (g .cls a)) (g .sh (g .cls b)) (θ (g .cls b))
+
+pub step-ok : (θ : ℕ → Ty) (g h : Graph) (a b : ℕ) (es : List Eqn) → Idem g → g .cls a ≢ g .cls b →
+    join (g .sh (g .cls a)) (g .sh (g .cls b)) ≡ joined es → Merged g h (g .cls a) (g .cls b) → StepOk θ g h a b es
 step-ok θ g h a b es i ne je m =
-    let j : JoinOk θ (g .sh (g .cls a)) (g .sh (g .cls b)) (θ (g .cls b)) (joined es) = rw je at (join-ok θ (g .sh (g .cls a)) (g .sh (g .cls b)) (θ (g .cls b))) in (
+    let j : JoinOk θ (g .sh (g .cls a)) (g .sh (g .cls b)) (θ (g .cls b)) (joined es) = rw je at (classes-join θ g a b) in (
       (λ x. merge-to θ g h (g .cls a) (g .cls b) ne (i a) (i b) m es j (x .0) (cc (x .0 .same a, x .0 .same b))),
       (λ x. let r = merge-from θ g h (g .cls a) (g .cls b) ne (i a) (i b) m es j (x .0) (x .1) in (r .0, cc (r .0 .same a, r .0 .same b))),
     )
 
-pub step-clash : (θ : ℕ → Ty) (g : Graph) (a b : ℕ) → Idem g → join (g .sh (g .cls a)) (g .sh (g .cls b)) ≡ clash → Sat θ g → θ a ≡ θ b → ⊥
+pub step-clash : (θ : ℕ → Ty) (g : Graph) (a b : ℕ) → Idem g → join (g .sh (g .cls a)) (g .sh (g .cls b)) ≡ clash →
+    Sat θ g → θ a ≡ θ b → ⊥
 step-clash θ g a b i je s e =
-    let j : JoinOk θ (g .sh (g .cls a)) (g .sh (g .cls b)) (θ (g .cls b)) clash = rw je at (join-ok θ (g .sh (g .cls a)) (g .sh (g .cls b)) (θ (g .cls b))) in
+    let j : JoinOk θ (g .sh (g .cls a)) (g .sh (g .cls b)) (θ (g .cls b)) clash = rw je at (classes-join θ g a b) in
     let f : θ (g .cls a) ≡ θ (g .cls b) = cc (s .same a, s .same b) in
     j (rw f at (s .fits (g .cls a) (i a))) (s .fits (g .cls b) (i b))
 

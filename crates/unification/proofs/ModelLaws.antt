@@ -1,4 +1,5 @@
--- What the answers of `modelSolve` mean, and the types that classes determine.
+-- What the answers of `modelSolve` mean, and the types that classes determine. Each loop by induction on its fuel: `unify` with `step-good`, `settle`
+-- with one turn of the sweeps; `Whole` puts them together; a type by induction on its depth.
 use mathlib.Core.Path.{_≡_, refl, sym, ap, ap₂, _∙_}
 use mathlib.Core.Logic.{_↔_, Iff·trans}
 use mathlib.Core.Bool.{Bool, true, false, cond}
@@ -9,33 +10,32 @@ use native.Mathlib.Nat.{not-suc-le-zero}
 use native.Mathlib.Omega.{arith}
 use lib.Dec.{T, ltb, lt→ltb, ltb→lt}
 use lib.ListN.{length, getD, replicate, length-replicate, length-append}
-use Rattle.rules.specs.Types.{Ty, POW, _⊗_, INTEGER, weightᵀ}
+use Rattle.rules.specs.Types.{Ty, atom, POW, _⊗_, INTEGER, weightᵀ}
 use Rattle.unification.specs.Problem.{Shape, unknown, leaf, power, product, Eqn, eqn, Matches, Holds, Solves, PartsBelow, AllBelow}
-use Rattle.unification.specs.Classes.{Sat, graph, WellFormed, ownClasses}
+use Rattle.unification.specs.Classes.{Sat, graph, ClassList, ownClasses}
 use Rattle.unification.specs.Marks.{statusOf, markOf, pos, marked, sweepTo, SoundMarks, Settled}
 use Rattle.unification.specs.Solved.{ClassesMatch, Grounded, Solved}
-use Rattle.unification.specs.Model.{Step, stop, next, step, goOn, unify, unless, settle, answer, marksOf, within, modelSolve}
+use Rattle.unification.specs.Model.{Step, stop, next, step, afterStep, unify, unless, settle, answer, marksOf, within, modelSolve}
 use Rattle.unification.specs.Model.{build, val, typeFrom}
 use Rattle.unification.proofs.Counting.{count-le}
 use Rattle.unification.proofs.Step.{StepGood, step-good, classes, isRep, below-append, holds-append, eqb-cases}
-use Rattle.unification.proofs.Marking.{sounds-next, settled-end, falls}
-use Rattle.unification.proofs.Rows.{weight-pos}
-use Rattle.unification.proofs.Whole.{Bounded, own-well-formed, solves-sat, first-sound, nothing as unmarked, solved}
+use Rattle.unification.proofs.Sweeps.{sounds-next, settled-end, falls}
+use Rattle.unification.proofs.Whole.{Bounded, own-classes, solves-sat, first-sound, nothing as unmarked, solved}
 
 -- ---- the equations
 -- What the classes of all equations say: those of l with the equations es, or no solution.
-abbrev pub UnifyRight : (sh : ℕ → Shape) (n : ℕ) (l : List ℕ) (es : List Eqn) → Option (List ℕ) → Type 0
+abbrev UnifyRight : (sh : ℕ → Shape) (n : ℕ) (l : List ℕ) (es : List Eqn) → Option (List ℕ) → Type 0
 UnifyRight sh n l es nothing = (θ : ℕ → Ty) → Sat θ (graph sh l) → Holds θ es → ⊥
-UnifyRight sh n l es (some l′) = WellFormed sh n l′ × ((θ : ℕ → Ty) → (Sat θ (graph sh l) × Holds θ es) ↔ Sat θ (graph sh l′))
+UnifyRight sh n l es (some l′) = ClassList sh n l′ × ((θ : ℕ → Ty) → (Sat θ (graph sh l) × Holds θ es) ↔ Sat θ (graph sh l′))
 
 module _ (sh : ℕ → Shape) (n : ℕ) (parts : (v : ℕ) → v < n → PartsBelow n (sh v)) where
-  goOn-right : (l : List ℕ) (a b : ℕ) (es : List Eqn) (k : ℕ) (f : List ℕ → List Eqn → Option (List ℕ)) (s : Step) →
+  afterStep-right : (l : List ℕ) (a b : ℕ) (es : List Eqn) (k : ℕ) (f : List ℕ → List Eqn → Option (List ℕ)) (s : Step) →
       StepGood sh n l a b s → AllBelow n es → 3 * classes n l + suc (length es) ≤ suc k →
-      ((l′ : List ℕ) (es′ : List Eqn) → WellFormed sh n l′ → AllBelow n es′ → 3 * classes n l′ + length es′ ≤ k →
+      ((l′ : List ℕ) (es′ : List Eqn) → ClassList sh n l′ → AllBelow n es′ → 3 * classes n l′ + length es′ ≤ k →
       UnifyRight sh n l′ es′ (f l′ es′)) →
-      UnifyRight sh n l (eqn a b ∷ es) (goOn s es f)
-  goOn-right l a b es k f stop g below fuel ih = λ θ s h. g θ s (h .0)
-  goOn-right l a b es k f (next l′ new) g below fuel ih =
+      UnifyRight sh n l (eqn a b ∷ es) (afterStep s es f)
+  afterStep-right l a b es k f stop g below fuel ih = λ θ s h. g θ s (h .0)
+  afterStep-right l a b es k f (next l′ new) g below fuel ih =
       last (f l′ (new ++ es)) (ih l′ (new ++ es) (g .0) (below-append n new es (g .1) below) (simp length-append (omega (arith, g .2))))
     where
       last : (o : Option (List ℕ)) → UnifyRight sh n l′ (new ++ es) o → UnifyRight sh n l (eqn a b ∷ es) o
@@ -48,18 +48,18 @@ module _ (sh : ℕ → Shape) (n : ℕ) (parts : (v : ℕ) → v < n → PartsBe
         ),
       )
 
-  pub unify-right : (fuel : ℕ) (l : List ℕ) (es : List Eqn) → WellFormed sh n l → AllBelow n es →
+  unify-right : (fuel : ℕ) (l : List ℕ) (es : List Eqn) → ClassList sh n l → AllBelow n es →
       3 * classes n l + length es ≤ fuel → UnifyRight sh n l es (unify sh fuel l es)
   unfolding unify
   unify-right zero l [] wf below h = (wf, λ θ. ((λ x. x .0), (λ x. (x, tt))))
   unify-right zero l (e ∷ es) wf below h = absurd (omega arith)
   unify-right (suc k) l [] wf below h = (wf, λ θ. ((λ x. x .0), (λ x. (x, tt))))
   unify-right (suc k) l (eqn a b ∷ es) wf below h =
-      goOn-right l a b es k (unify sh k) (step sh l a b) (step-good sh n parts l wf a b (below .0) (below .1)) (below .2) h (unify-right k)
+      afterStep-right l a b es k (unify sh k) (step sh l a b) (step-good sh n parts l wf a b (below .0) (below .1)) (below .2) h (unify-right k)
 
 -- ---- the marks
 module _ (sh : ℕ → Shape) (l : List ℕ) (n : ℕ) where
-  pub settle-right : (k : ℕ) (m : List ℕ) → SoundMarks sh l n m → n - marked n m < k → Settled sh l n (settle sh l n k m)
+  settle-right : (k : ℕ) (m : List ℕ) → SoundMarks sh l n m → n - marked n m < k → Settled sh l n (settle sh l n k m)
   unfolding settle
   settle-right zero m s h = absurd (not-suc-le-zero h)
   settle-right (suc k) m s h =
@@ -69,12 +69,12 @@ module _ (sh : ℕ → Shape) (l : List ℕ) (n : ℕ) where
 
 -- ---- a problem and its shapes past the variables
 module _ (sh sh′ : ℕ → Shape) (n : ℕ) (same : (v : ℕ) → v < n → sh v ≡ sh′ v) where
-  pub solves-same : {es : List Eqn} {θ : ℕ → Ty} → Solves sh n es θ → Solves sh′ n es θ
+  solves-same : {es : List Eqn} {θ : ℕ → Ty} → Solves sh n es θ → Solves sh′ n es θ
   solves-same {es} {θ} s = record { shapes = λ v h. rw (same v h) at (s .shapes v h); equal = s .equal }
 
 module _ (sh sh′ : ℕ → Shape) (n : ℕ) (same : (v : ℕ) → v < n → sh v ≡ sh′ v) where
   -- Only the shapes of the problem's variables matter.
-  pub solved-same : {es : List Eqn} {cls mark : List ℕ} → Solved sh n es cls mark → Solved sh′ n es cls mark
+  solved-same : {es : List Eqn} {cls mark : List ℕ} → Solved sh n es cls mark → Solved sh′ n es cls mark
   solved-same {es} {cls} {mark} s =
       let back : (θ : ℕ → Ty) → Solves sh′ n es θ → Solves sh n es θ = λ θ a. solves-same sh′ sh n (λ v h. sym (same v h)) a in
       record {
@@ -117,7 +117,7 @@ module _ (sh : ℕ → Shape) (n : ℕ) (es : List Eqn) (pr : Bounded sh n es) w
 
   bounded-right : Answers sh n es (marksOf sh n (unify sh (3 * n + length es) (ownClasses n) es))
   bounded-right = marks-right (unify sh (3 * n + length es) (ownClasses n) es)
-      (unify-right sh n (pr .parts) (3 * n + length es) (ownClasses n) es (own-well-formed sh n) (pr .below)
+      (unify-right sh n (pr .parts) (3 * n + length es) (ownClasses n) es (own-classes sh n) (pr .below)
       (omega (arith, count-le (isRep (ownClasses n)) n)))
 
 within-below : (sh : ℕ → Shape) (n v : ℕ) → v < n → within n sh v ≡ sh v
@@ -149,6 +149,11 @@ module _ (sh : ℕ → Shape) (n : ℕ) (es : List Eqn) where
   }))
 
 -- ---- types
+weight-pos : (t : Ty) → 1 ≤ weightᵀ t
+weight-pos (atom a) = omega arith
+weight-pos (POW t) = omega arith
+weight-pos (t ⊗ u) = omega arith
+
 -- A ground variable's type is what is built from the classes, where one of the two is no heavier than the depth.
 module _ (sh : ℕ → Shape) (n : ℕ) (cls mark : List ℕ) (θ : ℕ → Ty) (parts : (v : ℕ) → v < n → PartsBelow n (sh v))
     (bound : (v : ℕ) → v < n → getD cls v v < n) (grounded : Grounded sh n cls mark) (match : ClassesMatch sh n cls θ) where

@@ -1,14 +1,12 @@
 -- Classes of variables. A class is named by one of its variables, and has that variable's shape.
 use Prim.Native.Nat.{ℕ, zero, suc, _<_}
 use mathlib.Core.Path.{_≡_}
-use mathlib.Core.Logic.{_↔_}
-use mathlib.Core.Bool.{Bool, true, false, cond}
+use mathlib.Core.Bool.{cond}
 use mathlib.Core.List.{List, [], _∷_, _++_, map}
 use lib.Dec.{eqb}
 use lib.ListN.{length, getD}
 use Rattle.rules.specs.Types.{Ty}
-use Rattle.unification.specs.Problem.{Shape, Matches, Holds}
-use Rattle.unification.specs.Arrays.{equations}
+use Rattle.unification.specs.Problem.{Shape, Matches}
 
 pub record Graph : Type 0 where
   pub cls : ℕ → ℕ
@@ -29,7 +27,8 @@ look cls v = getD cls v v
 abbrev pub graph : (ℕ → Shape) → List ℕ → Graph
 graph sh l = record { cls = look l; sh = sh }
 
-pub record WellFormed (sh : ℕ → Shape) (n : ℕ) (l : List ℕ) : Type 0 where
+-- A list of the classes of n variables.
+pub record ClassList (sh : ℕ → Shape) (n : ℕ) (l : List ℕ) : Type 0 where
   pub len : length l ≡ n
   pub idem : Idem (graph sh l)
   pub bound : (v : ℕ) → v < n → look l v < n
@@ -45,17 +44,3 @@ change p q c = cond (eqb c p) q c
 -- The class p goes into the class q.
 abbrev pub relabel : ℕ → ℕ → List ℕ → List ℕ
 relabel p q l = map (change p q) l
-
--- What one equation a = b makes of the classes l₀: those of l, or no solution.
-abbrev pub Unified : (sh : ℕ → Shape) (n : ℕ) (l₀ : List ℕ) (a b : ℕ) → List ℕ → Bool → Type 0
-Unified sh n l₀ a b l false = (θ : ℕ → Ty) → Sat θ (graph sh l₀) → θ a ≡ θ b → ⊥
-Unified sh n l₀ a b l true = WellFormed sh n l × ((θ : ℕ → Ty) → (Sat θ (graph sh l₀) × (θ a ≡ θ b)) ↔ Sat θ (graph sh l))
-
--- The classes l are the classes l₀ with the first i equations.
-pub record EquationsIn (sh : ℕ → Shape) (n : ℕ) (l₀ lhs rhs : List ℕ) (i : ℕ) (l : List ℕ) : Type 0 where
-  pub wf : WellFormed sh n l
-  pub iff : (θ : ℕ → Ty) → (Sat θ (graph sh l₀) × Holds θ (equations lhs rhs i)) ↔ Sat θ (graph sh l)
-
-abbrev pub UnifiedAll : (sh : ℕ → Shape) (n : ℕ) (l₀ lhs rhs l : List ℕ) → Bool → Type 0
-UnifiedAll sh n l₀ lhs rhs l true = EquationsIn sh n l₀ lhs rhs (length lhs) l
-UnifiedAll sh n l₀ lhs rhs l false = (θ : ℕ → Ty) → Sat θ (graph sh l₀) → Holds θ (equations lhs rhs (length lhs)) → ⊥

@@ -1,9 +1,7 @@
--- The problem of unification that the solver decides, the arrays that hold it, and what the solver's functions say.
+-- The problem of unification, what its answer says, and the function that computes the answer.
 pub mod Problem
-pub mod Arrays
+pub mod Codes
 pub mod Classes
-pub mod Turn
 pub mod Marks
 pub mod Solved
-pub mod Rows
 pub mod Model

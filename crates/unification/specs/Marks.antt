@@ -4,8 +4,7 @@ use mathlib.Core.Path.{_≡_}
 use mathlib.Core.Bool.{Bool, true, false}
 use mathlib.Core.List.{List}
 use lib.ListN.{length, getD, set}
-use Rattle.unification.specs.Problem.{Shape, unknown, leaf, power, product, PartsBelow}
-use Rattle.unification.specs.Arrays.{shapeAt}
+use Rattle.unification.specs.Problem.{Shape, unknown, leaf, power, product}
 use Rattle.unification.specs.Classes.{Graph, look, graph}
 
 -- The mark of a shape, by its parts' marks.
@@ -70,9 +69,3 @@ pub record Settled (sh : ℕ → Shape) (l : List ℕ) (n : ℕ) (m : List ℕ) 
   pub sound : Sound sh l rounds m
   pub stalled : Stalled (graph sh l) (markOf m)
   pub len : length m ≡ n
-
-pub record StatusPre (kind left right m : List ℕ) (c : ℕ) : Type 0 where
-  pub kind-long : c < length kind
-  pub left-long : c < length left
-  pub right-long : c < length right
-  pub parts : PartsBelow (length m) (shapeAt kind left right c)

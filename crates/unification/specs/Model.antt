@@ -12,21 +12,21 @@ use Rattle.unification.specs.Classes.{Graph, look, graph, ownClasses, re
 use Rattle.unification.specs.Marks.{markOne, sweepTo, marked}
 
 -- What two shapes of one class leave: equations between their parts, or a clash.
-pub data Join : Type 0 where
-  clash : Join
-  joined : List Eqn → Join
+pub data ShapeJoin : Type 0 where
+  clash : ShapeJoin
+  joined : List Eqn → ShapeJoin
 
-abbrev pub sameAtom : Atom → Atom → Bool
-sameAtom a b = eqb (atomCode a) (atomCode b)
+abbrev pub sameCode : Atom → Atom → Bool
+sameCode a b = eqb (atomCode a) (atomCode b)
 
-abbrev pub join-leaf : Bool → Join
+abbrev pub join-leaf : Bool → ShapeJoin
 join-leaf true = joined []
 join-leaf false = clash
 
-abbrev pub join : Shape → Shape → Join
+abbrev pub join : Shape → Shape → ShapeJoin
 join unknown b = joined []
 join (leaf i) unknown = joined []
-join (leaf i) (leaf j) = join-leaf (sameAtom i j)
+join (leaf i) (leaf j) = join-leaf (sameCode i j)
 join (leaf i) (power v) = clash
 join (leaf i) (product v w) = clash
 join (power v) unknown = joined []
@@ -49,22 +49,22 @@ isUnknown (leaf k) = false
 isUnknown (power v) = false
 isUnknown (product v w) = false
 
-abbrev pub after : List ℕ → Join → Step
-after l clash = stop
-after l (joined es) = next l es
+abbrev pub afterJoin : List ℕ → ShapeJoin → Step
+afterJoin l clash = stop
+afterJoin l (joined es) = next l es
 
 -- p and q are the classes of the two sides: is it one class, and is q's shape unknown?
 abbrev pub step-on : (ℕ → Shape) → List ℕ → ℕ → ℕ → Bool → Bool → Step
 step-on sh l p q true u = next l []
 step-on sh l p q false true = next (relabel q p l) []
-step-on sh l p q false false = after (relabel p q l) (join (sh p) (sh q))
+step-on sh l p q false false = afterJoin (relabel p q l) (join (sh p) (sh q))
 
 unfoldable pub step : (ℕ → Shape) → List ℕ → ℕ → ℕ → Step
 step sh l a b = step-on sh l (look l a) (look l b) (eqb (look l a) (look l b)) (isUnknown (sh (look l b)))
 
-abbrev pub goOn : Step → List Eqn → (List ℕ → List Eqn → Option (List ℕ)) → Option (List ℕ)
-goOn stop es f = nothing
-goOn (next l new) es f = f l (new ++ es)
+abbrev pub afterStep : Step → List Eqn → (List ℕ → List Eqn → Option (List ℕ)) → Option (List ℕ)
+afterStep stop es f = nothing
+afterStep (next l new) es f = f l (new ++ es)
 
 -- The classes of all equations. The first argument bounds the steps: 3 for each class and 1 for each equation are enough.
 unfoldable pub unify : (ℕ → Shape) → ℕ → List ℕ → List Eqn → Option (List ℕ)
@@ -72,7 +72,7 @@ unfolding step
 unify sh zero l [] = some l
 unify sh zero l (e ∷ es) = nothing
 unify sh (suc k) l [] = some l
-unify sh (suc k) l (eqn a b ∷ es) = goOn (step sh l a b) es (unify sh k)
+unify sh (suc k) l (eqn a b ∷ es) = afterStep (step sh l a b) es (unify sh k)
 
 abbrev pub unless : Bool → (List ℕ → List ℕ) → List ℕ → List ℕ
 unless true f m = m

@@ -23,6 +23,16 @@ ClassesMatch sh n cls θ = (v : ℕ) → v < n → Matches θ (sh (getD cls v v)
 abbrev pub Grounded : (sh : ℕ → Shape) (n : ℕ) (cls mark : List ℕ) → Type 0
 Grounded sh n cls mark = (v : ℕ) → v < n → 2 ≤ getD mark v 1 → 2 ≤ statusOf (markOf mark) (sh (getD cls v v))
 
+-- Two solutions of a problem. All solutions are the same at the variables that are fixed, and these two differ at the others.
+pub record Solutions (sh : ℕ → Shape) (n : ℕ) (es : List Eqn) (Fixed : ℕ → Type 0) : Type 0 where
+  pub first : ℕ → Ty
+  pub second : ℕ → Ty
+  pub first-solves : Solves sh n es first
+  pub second-solves : Solves sh n es second
+  pub declared : (G : ℕ) → ((v : ℕ) → v < n → LeafDeclared G (sh v)) → (v : ℕ) → Declared G (first v) × Declared G (second v)
+  pub agree : (v : ℕ) → v < n → Fixed v → (θ κ : ℕ → Ty) → Solves sh n es θ → Solves sh n es κ → θ v ≡ κ v
+  pub differ : (v : ℕ) → v < n → (Fixed v → ⊥) → first v ≡ second v → ⊥
+
 -- The problem has solutions: cls and mark tell what all of them have in common, and first and second differ in the rest.
 pub record Solved (sh : ℕ → Shape) (n : ℕ) (es : List Eqn) (cls mark : List ℕ) : Type 0 where
   pub bound : (v : ℕ) → v < n → getD cls v v < n
