@@ -81,23 +81,23 @@ module _ (tb : Table) (θ : ℕ → Ty) (n : ℕ) where
   kind-obeys (some k) r s h = meets→obeys (nodeAt (tb .nodes) n) _ (λ m. θ (nodePlace tb m)) _ k (s, h)
 
 -- Types σ of the variables below b, with z at b and s behind it.
-abbrev behind : Ty → (ℕ → Ty) → ℕ → Ty
+abbrev pub behind : Ty → (ℕ → Ty) → ℕ → Ty
 behind z s zero = z
 behind z s (suc i) = s i
 
-unfoldable extend : ℕ → (ℕ → Ty) → Ty → (ℕ → Ty) → ℕ → Ty
+unfoldable pub extend : ℕ → (ℕ → Ty) → Ty → (ℕ → Ty) → ℕ → Ty
 extend b σ z s v = cond (ltb v b) (σ v) (behind z s (v - b))
 
 module _ (b : ℕ) (σ : ℕ → Ty) (z : Ty) (s : ℕ → Ty) where
-  extend-old : (v : ℕ) → v < b → extend b σ z s v ≡ σ v
+  pub extend-old : (v : ℕ) → v < b → extend b σ z s v ≡ σ v
   unfolding extend
   extend-old v h = rw (less v b h) refl
 
-  extend-self : extend b σ z s b ≡ z
+  pub extend-self : extend b σ z s b ≡ z
   unfolding extend
   extend-self = let e : b - b ≡ 0 = omega arith in rw (not-less b b (omega arith), e) refl
 
-  extend-slot : (i : ℕ) → extend b σ z s (b + 1 + i) ≡ s i
+  pub extend-slot : (i : ℕ) → extend b σ z s (b + 1 + i) ≡ s i
   unfolding extend
   extend-slot i = let e : b + 1 + i - b ≡ suc i = omega arith in rw (not-less (b + 1 + i) b (omega arith), e) refl
 

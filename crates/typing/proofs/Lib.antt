@@ -4,9 +4,11 @@ pub mod RefLaws
 pub mod VariableLaws
 pub mod ProblemLaws
 pub mod EquationsLaws
+pub mod Extending
 pub mod Places
 pub mod Verdicts
 pub mod VerdictRight
-pub mod SameProblem
+pub mod HoldsLaws
+pub mod EquationCounts
 pub mod Examples
 pub mod RuleChecks

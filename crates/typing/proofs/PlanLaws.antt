@@ -15,7 +15,7 @@ use Rattle.rules.specs.Tables.{Node, operands}
 use Rattle.typing.specs.Plan.{plan, Meets, refs}
 
 -- The slots' types as a list.
-abbrev slotsFrom : List Ty → ℕ → Ty
+abbrev pub slotsFrom : List Ty → ℕ → Ty
 slotsFrom ts i = getD ts i INTEGER
 
 -- Types obey the rule of the kind k, at a node d where operands have the types η.

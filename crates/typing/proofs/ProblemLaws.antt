@@ -89,16 +89,23 @@ solves→meets tb k σ h q n l = (
   eqns→pairs σ (varOf tb n) (planAt tb n .equations) (holds-node tb σ k (q .equal) n l),
 )
 
+-- Forms that are met give the variables' types their shapes, whatever the equations.
+pub forms→shapes : (tb : Table) (k : ℕ) (σ : ℕ → Ty) → k ≤ length (tb .nodes) →
+    ((n : ℕ) → n < k → MatchesForm (λ r. σ (varOf tb n r)) (planAt tb n .self-form) (σ (base tb n)) ×
+    MatchesSlots (λ r. σ (varOf tb n r)) (λ i. σ (base tb n + 1 + i)) (planAt tb n .slots)) →
+    (v : ℕ) → v < base tb k → Matches σ (shapeAt tb v) (σ v)
+forms→shapes tb k σ h q = each-variable tb (λ v. Matches σ (shapeAt tb v) (σ v))
+    (λ x l. subst (λ s. Matches σ s (σ x)) (sym (shape-name tb l)) tt) k
+    (λ n l. subst (λ s. Matches σ s (σ (base tb n))) (sym (shape-self tb (omega arith)))
+    (form→shape σ (varOf tb n) (planAt tb n .self-form) _ (q n l .0)))
+    (λ n j l g. subst (λ s. Matches σ s (σ (base tb n + 1 + j))) (sym (shape-slot tb (omega arith) g))
+    (form→shape σ (varOf tb n) (getD (planAt tb n .slots) j openᶠ) _ (slot-at _ _ (planAt tb n .slots) (q n l .1) j g)))
+
 pub meets→solves : (tb : Table) (k : ℕ) (σ : ℕ → Ty) → k ≤ length (tb .nodes) →
     MeetsBelow tb k σ → Solves (shapeAt tb) (base tb k) (equations tb k) σ
 unfolding varOf
 meets→solves tb k σ h q = record {
-  shapes = each-variable tb (λ v. Matches σ (shapeAt tb v) (σ v))
-      (λ x l. subst (λ s. Matches σ s (σ x)) (sym (shape-name tb l)) tt) k
-      (λ n l. subst (λ s. Matches σ s (σ (base tb n))) (sym (shape-self tb (omega arith)))
-      (form→shape σ (varOf tb n) (planAt tb n .self-form) _ (q n l .0)))
-      (λ n j l g. subst (λ s. Matches σ s (σ (base tb n + 1 + j))) (sym (shape-slot tb (omega arith) g))
-      (form→shape σ (varOf tb n) (getD (planAt tb n .slots) j openᶠ) _ (slot-at _ _ (planAt tb n .slots) (q n l .1) j g)));
+  shapes = forms→shapes tb k σ h (λ n l. (q n l .0, q n l .1));
   equal = holds-all tb σ k (λ n l. pairs→eqns σ (varOf tb n) (planAt tb n .equations) (q n l .2));
 }
 

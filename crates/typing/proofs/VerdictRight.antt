@@ -15,6 +15,8 @@ use Rattle.rules.specs.Reading.{reading}
 use Rattle.rules.specs.Verdict.{Place, typeLimit, sheetOf, sheetLength, Verdict, unreadable, misfit}
 use Rattle.laws.proofs.EndLaws.{T-true, T-false, requireAll-done, requireAll-number, requireAll-refused}
 use Rattle.unification.specs.Problem.{Shape}
+use Rattle.unification.specs.Solved.{Solved}
+use Rattle.unification.proofs.Answers.{solutions}
 use Rattle.unification.proofs.ModelLaws.{Answers, modelSolve-right, typeFrom-is}
 use Rattle.typing.specs.Equations.{base, shapes, shapeAt, equations, RightNodes}
 use Rattle.typing.specs.Model.{isPlace, solveBelow, isSome, solvable}
@@ -22,7 +24,7 @@ use Rattle.typing.specs.Places.{placeCount, placeVar}
 use Rattle.typing.specs.Model.{settled, types, light, sheetOrRefusal, checked, verdict}
 use Rattle.typing.proofs.ProblemLaws.{well-formed}
 use Rattle.typing.proofs.Places.{place-below, var-below, isPlace-place, place-isPlace}
-use Rattle.typing.proofs.Verdicts.{right-nodes, SolvesBelow, SolvedBelow, GroundPlaces, none-typed, typing-none}
+use Rattle.typing.proofs.Verdicts.{right-nodes, SolvesBelow, FixedPlaces, none-typed, typing-none}
 use Rattle.typing.proofs.Verdicts.{clash-verdict, several-verdict, heavy-verdict, accepts-verdict}
 
 -- A property of `requireAll` and what follows: it holds of the rest where each number passes, and of the refusal at the
@@ -55,19 +57,22 @@ unfolding solveBelow
 solveBelow-right tb right k h =
     let w = well-formed tb right k h in modelSolve-right (shapeAt tb) (base tb k) (equations tb k) (w .parts) (w .below)
 
+-- The problem of the nodes below k is solved; a variable is fixed where it is marked ground.
+abbrev SolvedBelow : Table → ℕ → List ℕ → List ℕ → Type 0
+SolvedBelow tb k cls mark = Solved (shapeAt tb) (base tb k) (equations tb k) cls mark
+
+abbrev Ground : List ℕ → ℕ → Type 0
+Ground mark v = 2 ≤ getD mark v 1
+
 -- A place that has a type is marked ground where it passes the test, and is not where it fails.
 module _ (tb : Table) (mark : List ℕ) (p : ℕ) (w : Place tb p) where
-  settled-true : settled tb mark p ≡ true → 2 ≤ getD mark (placeVar tb p) 1
+  settled-true : settled tb mark p ≡ true → Ground mark (placeVar tb p)
   unfolding settled
   settled-true h = leb→le 2 (getD mark (placeVar tb p) 1) (passes (isPlace tb p) _ h (place-isPlace tb p w))
 
-  settled-false : settled tb mark p ≡ false → getD mark (placeVar tb p) 1 < 2
+  settled-false : settled tb mark p ≡ false → Ground mark (placeVar tb p) → ⊥
   unfolding settled
-  settled-false h = go (decLt (getD mark (placeVar tb p) 1) 2)
-    where
-      go : Dec (getD mark (placeVar tb p) 1 < 2) → getD mark (placeVar tb p) 1 < 2
-      go (yes l) = l
-      go (no f) = absurd (fails (isPlace tb p) _ h .1 (le→leb 2 (getD mark (placeVar tb p) 1) (omega arith)))
+  settled-false h g = fails (isPlace tb p) _ h .1 (le→leb 2 (getD mark (placeVar tb p) 1) g)
 
 -- The types of the table's places, from classes and marks that are solved.
 module _ (tb : Table) (right : RightNodes tb) (cls mark : List ℕ) (s : SolvedBelow tb (length (tb .nodes)) cls mark)
@@ -153,7 +158,7 @@ module _ {bs : List ℕ} {room : ℕ} {tb : Table} (e : reading bs ≡ done tb) 
   clash-right k h f below =
       let right = right-nodes bs tb e in
       let r = solvable-solved tb right k (omega arith) (solvable-all tb right k below) in
-      clash-verdict e fits k h (r .0 .0) (r .0 .1) (r .2) (unsolvable tb right (suc k) h f)
+      clash-verdict e fits k h (Ground (r .0 .1)) (solutions (r .2)) (unsolvable tb right (suc k) h f)
 
   -- 12, 13 and acceptance
   typed-right : (r : List ℕ × List ℕ) → SolvedBelow tb (length (tb .nodes)) (r .0) (r .1) → Verdict bs room (sheetOrRefusal (shapeAt tb) tb (some r))
@@ -162,7 +167,7 @@ module _ {bs : List ℕ} {room : ℕ} {tb : Table} (e : reading bs ≡ done tb) 
       requireAll-cases (Verdict bs room) 12 (settled tb (r .1)) (placeCount tb) _
       (λ all. rest (λ p w. settled-true tb (r .1) p w (all p (place-below tb p w))))
       (λ p h f below. let w = settled-place tb (r .1) p h f in
-      several-verdict e fits (r .0) (r .1) s p w (settled-false tb (r .1) p w f)
+      several-verdict e fits (Ground (r .1)) (solutions s) p w (settled-false tb (r .1) p w f)
       (λ q l v. settled-true tb (r .1) q v (below q l)))
     where
       right : RightNodes tb
@@ -171,14 +176,14 @@ module _ {bs : List ℕ} {room : ℕ} {tb : Table} (e : reading bs ≡ done tb) 
       θ : ℕ → Ty
       θ = types (shapeAt tb) tb (r .0)
 
-      rest : GroundPlaces tb (r .1) → Verdict bs room (requireAll 13 (light tb θ) (placeCount tb) >>= λ _. done (sheetOf tb θ))
+      rest : FixedPlaces tb (Ground (r .1)) → Verdict bs room (requireAll 13 (light tb θ) (placeCount tb) >>= λ _. done (sheetOf tb θ))
       rest g =
           requireAll-cases (Verdict bs room) 13 (light tb θ) (placeCount tb) _
-          (λ all. accepts-verdict e fits (r .0) (r .1) s g
+          (λ all. accepts-verdict e fits (Ground (r .1)) (solutions s) g
           (λ p w. light-true tb right (r .0) (r .1) s p w (g p w) (all p (place-below tb p w)) .1) θ
           (λ p w. light-true tb right (r .0) (r .1) s p w (g p w) (all p (place-below tb p w)) .0))
           (λ p h f below. let w = light-place tb θ p h f in
-          heavy-verdict e fits (r .0) (r .1) s g p w (light-false tb right (r .0) (r .1) s p w (g p w) f)
+          heavy-verdict e fits (Ground (r .1)) (solutions s) g p w (light-false tb right (r .0) (r .1) s p w (g p w) f)
           (λ q l v. light-true tb right (r .0) (r .1) s q v (g q v) (below q l) .1))
 
   checked-right : Verdict bs room (checked (shapes tb (length (tb .nodes))) tb)
