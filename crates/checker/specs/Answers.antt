@@ -1,17 +1,14 @@
 -- The number and the place, in the terms of document 01, of what `check` answers, and what its internal functions say.
-use Prim.Native.Nat.{ℕ, _<_}
+use Prim.Native.Nat.{ℕ}
 use mathlib.Core.List.{List}
 use mathlib.Core.Path.{_≡_}
 use lib.ListN.{length}
 use Rattle.rules.specs.Ends.{End, done, refused}
-use Rattle.rules.specs.Tables.{tableOf, nodesAt}
+use Rattle.rules.specs.Tables.{tableOf}
 use Rattle.rules.specs.Reading.{reading}
 use Rattle.rules.specs.Verdict.{Verdict, sheetAfter, sheetLength}
-use Rattle.unification.specs.Arrays.{ClassArrays, shapeAt as arrayShape}
-use Rattle.unification.specs.Solved.{Solved}
-use Rattle.typing.specs.Equations.{base, shapeAt, equations}
-use Rattle.rows.specs.Rows.{Placed}
-use Rattle.checker.specs.Prefix.{Ready}
+use Rattle.sheets.specs.Rows.{PlacesIn}
+use Rattle.checker.specs.Solving.{SolvedBelow}
 use Rattle.checker.specs.declared.Checked.{Checked}
 use Rattle.checker.specs.declared.Checked.the-variants.{Accepted, Refused}
 
@@ -31,25 +28,14 @@ pub record Told (bs sheet : List ℕ) (r : Checked) (after : List ℕ) : Type 0 
   pub answer : answerOf r ≡ answered verdict
   pub exit : after ≡ sheetAfter verdict sheet
 
--- What answering rests on: the parts of the arrays that hold the whole table's problem, solved, and a sheet that fits.
-pub record Answerable (bs : List ℕ) (at : ℕ) (bases kind left right cls mark sheet : List ℕ) : Type 0 where
-  pub reads : reading bs ≡ done (tableOf bs)
-  pub placed : Placed bs at bases (length cls)
-  pub marks : length mark ≡ length cls
-  pub variables : length cls ≡ base (tableOf bs) (length (tableOf bs .nodes))
-  pub classes : ClassArrays kind left right cls (length cls)
-  pub shapes : (v : ℕ) → v < length cls → arrayShape kind left right v ≡ shapeAt (tableOf bs) v
-  pub solved : Solved (shapeAt (tableOf bs)) (base (tableOf bs) (length (tableOf bs .nodes)))
-      (equations (tableOf bs) (length (tableOf bs .nodes))) cls mark
-  pub fits : length sheet ≡ sheetLength (tableOf bs)
-
 -- A readable table and a sheet of the right length.
 pub record Checkable (bs sheet : List ℕ) : Type 0 where
   pub reads : reading bs ≡ done (tableOf bs)
   pub fits : length sheet ≡ sheetLength (tableOf bs)
 
--- The problem of such a table stands in the arrays; its node records begin at `at`.
-pub record Posed (bs : List ℕ) (at : ℕ) (kind left right lhs rhs bases counts sheet : List ℕ) : Type 0 where
+-- What answering rests on: the whole table, solved, its places, and a sheet that fits; `firsts` is room for the rows' classes.
+pub record Answerable (bs : List ℕ) (at : ℕ) (ts starts marks firsts sheet : List ℕ) : Type 0 where
   pub checkable : Checkable bs sheet
-  pub ready : Ready bs kind left right lhs rhs bases counts
-  pub offset : at ≡ nodesAt bs
+  pub places : PlacesIn bs at ts starts marks
+  pub solved : SolvedBelow (tableOf bs) (length (tableOf bs .nodes)) ts marks
+  pub room : length firsts ≡ length ts

@@ -1,3 +1,4 @@
 -- What Check answers, and what its internal functions say.
-pub mod Prefix
+pub mod Solving
+pub mod Attempts
 pub mod Answers

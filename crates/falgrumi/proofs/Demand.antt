@@ -23,7 +23,7 @@ use Rattle.laws.proofs.TypedTree.{IsExpression}
 use Rattle.laws.proofs.Soundness.{AtNode, not-15, evaluation-sound}
 use Rattle.typing.specs.Model.{verdict}
 use Rattle.typing.proofs.VerdictRight.{verdict-right}
-use Rattle.rows.proofs.Sheet.{sheet-row, sheetOf-length}
+use Rattle.sheets.proofs.Sheet.{sheet-row, sheetOf-length}
 use Rattle.reports.specs.Told.{numberOf}
 use Rattle.conforms.specs.Conforming.{rowAt, HasWritten, Conforming, conforming}
 use Rattle.conforms.specs.Rows.{SheetFits}

@@ -8,7 +8,7 @@ use Rattle.rules.specs.Merges.{Union, unites, heavy, unfit}
 use Rattle.rules.proofs.Basics.{absurd01}
 use Rattle.reading.specs.declared.Refusal.{Refusal}
 use Rattle.reports.specs.Told.{InByte}
-use Rattle.unions.specs.Answers.{answered, cellsAfter}
+use Rattle.unions.specs.Answers.{mergeAnswered, cellsAfter}
 use Rattle.unions.specs.declared.MergeAnswer.{MergeAnswer}
 use Rattle.unions.specs.declared.MergeAnswer.the-variants.{Refused, Unfit, Heavy, United}
 use Rattle.falgrumi.specs.Answers.{mergeEnd, TellsMerge}
@@ -48,20 +48,20 @@ answerBytes (United n b) = b
 abbrev pub Told : End Union → MergeAnswer → Type 0
 Told e a = TellsMerge e (answerNumber a) (answerPlace a) (answerComparisons a) (answerBytes a)
 
-meant-told : (e : End Union) → Told e (answered e)
+meant-told : (e : End Union) → Told e (mergeAnswered e)
 meant-told (refused r p) = record { ended = record { number = refl; at = refl }; compared = refl; length = refl }
 meant-told (done (unites n v)) = record { ended = record { number = refl; at = refl }; compared = refl; length = refl }
 meant-told (done (heavy n)) = record { ended = record { number = refl; at = refl }; compared = refl; length = refl }
 meant-told (done unfit) = record { ended = record { number = refl; at = refl }; compared = refl; length = refl }
 
-meant-byte : (e : End Union) → InByte e → answerNumber (answered e) < 256
+meant-byte : (e : End Union) → InByte e → answerNumber (mergeAnswered e) < 256
 meant-byte (refused r p) h = h
 meant-byte (done (unites n v)) h = omega arith
 meant-byte (done (heavy n)) h = omega arith
 meant-byte (done unfit) h = omega arith
 
 -- The answer a, which has the form b, tells what is meant.
-module _ (e : End Union) {a b : MergeAnswer} (h : a ≡ answered e) (q : a ≡ b) where
+module _ (e : End Union) {a b : MergeAnswer} (h : a ≡ mergeAnswered e) (q : a ≡ b) where
   pub merge-told : Told e b
   merge-told = subst (Told e) (sym h ∙ q) (meant-told e)
 

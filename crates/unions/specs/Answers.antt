@@ -19,11 +19,11 @@ use Rattle.unions.specs.declared.MergeAnswer.{MergeAnswer}
 use Rattle.unions.specs.declared.MergeAnswer.the-variants.{Refused, Unfit, Heavy, United}
 
 -- The answer of the code for what is meant.
-abbrev pub answered : End Union → MergeAnswer
-answered (refused k p) = Refused (record { number = k; place = p })
-answered (done (unites n v)) = United n (8 * weight v)
-answered (done (heavy n)) = Heavy n
-answered (done unfit) = Unfit
+abbrev pub mergeAnswered : End Union → MergeAnswer
+mergeAnswered (refused k p) = Refused (record { number = k; place = p })
+mergeAnswered (done (unites n v)) = United n (8 * weight v)
+mergeAnswered (done (heavy n)) = Heavy n
+mergeAnswered (done unfit) = Unfit
 
 -- The lent buffer at exit: the cells of the union, if they fit there; untouched for every other answer.
 abbrev pub cellsAfter : End Union → List ℕ → List ℕ
@@ -34,7 +34,7 @@ cellsAfter (done unfit) out = out
 
 -- Both.
 pub record Tells (e : End Union) (out out′ : List ℕ) (r : MergeAnswer) : Type 0 where
-  pub answer : r ≡ answered e
+  pub answer : r ≡ mergeAnswered e
   pub buffer : out′ ≡ cellsAfter e out
 
 abbrev pub MergeAnswers : List ℕ → List ℕ → List ℕ → List ℕ → MergeAnswer → Type 0

@@ -10,7 +10,7 @@ ghost use Rattle.rules.specs.Tables.{tableOf, identifierCount};
 ghost use Rattle.rules.specs.Merges.{unionIn};
 ghost use Rattle.buffer.specs.Buffer.{cellsAtMost};
 ghost use Rattle.operations.specs.Outcomes.{TwoReady};
-ghost use Rattle.unions.specs.Answers.{answered, cellsAfter, MergeAnswers, Unites, NextFree, MergeReady, LoadedMerges, ArenaFits};
+ghost use Rattle.unions.specs.Answers.{mergeAnswered, cellsAfter, MergeAnswers, Unites, NextFree, MergeReady, LoadedMerges, ArenaFits};
 
 // The refusals 1 to 9 and 14; two values that are not sets of one type; a union of more than 256 cells; or the union, with the bytes of its
 // cells. The comparisons are those of the whole merge.
@@ -130,7 +130,7 @@ fn merge_readable(table: &[u8], values: &[u8], cells: &mut [u8]) -> MergeAnswer
 // they fit there.
 pub fn merge_values(table: &[u8], values: &[u8], cells: &mut [u8]) -> MergeAnswer
     ensures { λ r. ⌜
-        (r ≡ answered (unionIn (now (table .entry)) (now (values .entry)))) ×
+        (r ≡ mergeAnswered (unionIn (now (table .entry)) (now (values .entry)))) ×
         (now (cells .exit) ≡ cellsAfter (unionIn (now (table .entry)) (now (values .entry))) (now (cells .entry)))
         ⌝ }
 {

@@ -1,98 +1,43 @@
--- The problem of the table is built in fresh arrays and handed on.
+-- The constraints are built, then solved. Landmarks: what was lent, and the building.
+use denote.Ref.{now}
 use borrow.Author.Needs.{needs}
-use Rattle.checker.proofs.Typing.{headed, fielded, sized-fresh, built-ready}
+use Rattle.checker.proofs.RoomLaws.{was-read, fielded, ready}
 use Rattle.checker.proofs.check_types.Statement.{statement}
 use Rattle.checker.proofs.check_types.Tie as tie
 
-nodes-offset-requires : tie.Need-nodes-offset-requires
-nodes-offset-requires c κs = headed (c .before .before .pre)
+abbrev offset : tie.After-build-arg3 → tie.After-nodes-offset
+offset c = c .before .before .before
 
-slice-aggregate-build : tie.Need-slice-aggregate-build
-slice-aggregate-build c = search needs
+abbrev lent : tie.After-nodes-offset → tie.Start
+lent c = let a = c .before .before .before in let b = a .before .before .before in b .before .before .before
 
-slice-aggregate-build-2 : tie.Need-slice-aggregate-build-2
-slice-aggregate-build-2 c = search needs
+abbrev lent-first : tie.After-slice-known7 → tie.Start
+lent-first c = let a = c .before .before .before in let b = a .before .before .before in b .before .before
 
-slice-aggregate-build-3 : tie.Need-slice-aggregate-build-3
-slice-aggregate-build-3 c = search needs
-
-slice-aggregate-build-4 : tie.Need-slice-aggregate-build-4
-slice-aggregate-build-4 c = search needs
-
-slice-aggregate-build-5 : tie.Need-slice-aggregate-build-5
-slice-aggregate-build-5 c = search needs
-
-slice-aggregate-build-6 : tie.Need-slice-aggregate-build-6
-slice-aggregate-build-6 c = search needs
-
-slice-aggregate-build-7 : tie.Need-slice-aggregate-build-7
-slice-aggregate-build-7 c = search needs
-
-build-requires : tie.Need-build-requires
-build-requires c κs =
-    let o = c .before .before .before .before .before .before .before in
-    (fielded (o .before .before .before .pre) (o .nodes-offset .ensures), sized-fresh)
-
-slice-aggregate-solve-types : tie.Need-slice-aggregate-solve-types
-slice-aggregate-solve-types c = search needs
-
-slice-aggregate-solve-types-2 : tie.Need-slice-aggregate-solve-types-2
-slice-aggregate-solve-types-2 c = search needs
-
-slice-aggregate-solve-types-3 : tie.Need-slice-aggregate-solve-types-3
-slice-aggregate-solve-types-3 c = search needs
-
-slice-aggregate-solve-types-4 : tie.Need-slice-aggregate-solve-types-4
-slice-aggregate-solve-types-4 c = search needs
-
-slice-aggregate-solve-types-5 : tie.Need-slice-aggregate-solve-types-5
-slice-aggregate-solve-types-5 c = search needs
-
-slice-aggregate-solve-types-6 : tie.Need-slice-aggregate-solve-types-6
-slice-aggregate-solve-types-6 c = search needs
-
-slice-aggregate-solve-types-7 : tie.Need-slice-aggregate-solve-types-7
-slice-aggregate-solve-types-7 c = search needs
-
-solve-types-requires : tie.Need-solve-types-requires
-solve-types-requires c κs =
-    let b = c .before .before .before .before .before .before .before .before .before .before .before .before .before .before .before in
-    let o = b .before .before .before .before .before .before .before .before in
-    let k = b .build .kept .1 .1 in
-    record {
-      checkable = o .before .before .before .pre;
-      ready =
-          built-ready (o .before .before .before .pre) (b .build .ensures) (k .0) (k .1 .0) (k .1 .1 .0) (k .1 .1 .1 .0) (k .1 .1 .1 .1 .0)
-          (k .1 .1 .1 .1 .1 .0) (k .1 .1 .1 .1 .1 .1 .0);
-      offset = o .nodes-offset .ensures;
-    }
-
-same-length : tie.Need-same-length
-same-length c = search needs
-
-returns : tie.Need-returns
-returns c = search needs
+abbrev building : tie.After-solve-types-arg7 → tie.After-build
+building c =
+    let a = c .before .before .before in
+    let b = a .before .before .before in
+    let d = b .before .before .before in
+    let e = d .before .before .before in e .before
 
 pub check-types-spec : {M : Type 1} → statement M
 check-types-spec =
     tie.close
     (tie.spec
-    nodes-offset-requires
-    slice-aggregate-build
-    slice-aggregate-build-2
-    slice-aggregate-build-3
-    slice-aggregate-build-4
-    slice-aggregate-build-5
-    slice-aggregate-build-6
-    slice-aggregate-build-7
-    build-requires
-    slice-aggregate-solve-types
-    slice-aggregate-solve-types-2
-    slice-aggregate-solve-types-3
-    slice-aggregate-solve-types-4
-    slice-aggregate-solve-types-5
-    slice-aggregate-solve-types-6
-    slice-aggregate-solve-types-7
-    solve-types-requires
-    same-length
-    returns)
+    (λ c κs. was-read (lent-first c .pre .0) .header .long)
+    (λ c κs. let o = offset c in
+    let p = lent o .pre in (fielded (p .0) (o .nodes-offset .ensures), p .1 .0))
+    (λ c κs. let b = building c in
+    let o = offset (b .before) in
+    let p = lent o .pre in
+    let k = b .build .kept .1 .1 in
+    (p .0, (ready (p .0) (p .1 .0) (k .0) (k .1 .0) (k .1 .1 .0) (b .build .ensures), p .1 .1)))
+    (λ c. search needs)
+    (λ c. search needs)
+    (λ c. search needs)
+    (λ c. search needs)
+    (λ c. search needs)
+    (λ c. search needs)
+    (λ c. search needs)
+    (λ c. search needs))

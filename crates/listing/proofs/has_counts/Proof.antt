@@ -1,4 +1,4 @@
--- Both tests.
+-- The two tests one after the other; the second may be made since a headed table is long enough for it.
 use borrow.Author.Needs.{needs}
 use Rattle.listing.proofs.ListingLaws.{unheaded, headed-long, headed-limited}
 use Rattle.listing.proofs.has_counts.Statement.{statement}

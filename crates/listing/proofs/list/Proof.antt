@@ -1,7 +1,8 @@
--- The text for what Check answers, with the sheet that it wrote.
-use Prim.Native.Nat.{_*_, _≤_}
-use mathlib.Core.List.{_++_}
-use mathlib.Core.Path.{sym, ap, _∙_}
+-- The text for what Check answers: the refusal's line, or the lines of the sheet that Check wrote, which is the part of `sheet` lent to it.
+-- Landmarks: what was lent, the places counted, and Check's answer, from each arm.
+use Prim.Native.Nat.{ℕ, _*_, _≤_}
+use mathlib.Core.List.{List, _++_}
+use mathlib.Core.Path.{_≡_, sym, ap, _∙_}
 use native.Mathlib.Omega.{arith}
 use lib.ListN.{length, take, drop}
 use lib.Seq.{length-take-le}
@@ -12,142 +13,110 @@ use borrow.Author.Needs.{needs}
 use Rattle.listing.proofs.list.Statement.{statement}
 use Rattle.listing.proofs.list.Tie as tie
 
-places-requires : tie.Need-places-requires
-places-requires c κs = search needs
+abbrev lent : tie.After-places → tie.Start
+lent c = let a = c .before in a .before .before .before
 
-mul-end : tie.Need-mul-end
-mul-end c = search needs
+abbrev counted : tie.After-check → tie.After-places
+counted c = c .before .before
 
-slice-relend-prefix-check : tie.Need-slice-relend-prefix-check
-slice-relend-prefix-check c = search needs
+abbrev checked : tie.After-slice-known3 → tie.After-check
+checked c = c .before .before
 
-slice-aggregate-check : tie.Need-slice-aggregate-check
-slice-aggregate-check c =
-    let a = c .before .before .before .before .before in
-    let count = c .before .places .result in
-    let sheet = a .args .sheet .now in
-    let fits : 64 * count ≤ length sheet = omega (arith, c .before .places .ensures .1, a .pre .0) in
-    sym (length-take-le (64 * count) sheet fits)
+-- Check's answer, where it is a refusal and where the table is accepted.
+abbrev refusing : tie.After-checked → tie.After-check
+refusing c = checked (c .before .before)
 
-check-requires : tie.Need-check-requires
-check-requires c κs = search needs
+abbrev accepting : tie.After-identifiers → tie.After-check
+accepting c = let a = c .before .before .before in checked (a .before)
 
-enum-known-checked : tie.Need-enum-known-checked
-enum-known-checked c = search needs
+-- The part lent to Check: as long as the rows of all places.
+abbrev end : tie.After-places → ℕ
+end c = 64 * c .places .result
+
+abbrev part : tie.After-places → List ℕ
+part c = take (end c) (lent c .args .sheet .now)
+
+fits : (c : tie.After-places) → end c ≤ length (lent c .args .sheet .now)
+fits c = omega (arith, c .places .ensures .1, lent c .pre .0)
+
+part-long : (c : tie.After-places) → end c ≡ length (part c)
+part-long c = sym (length-take-le (end c) (lent c .args .sheet .now) (fits c))
+
+-- The rows that Check wrote, as the part of the sheet that is printed.
+abbrev rows : tie.After-check → List ℕ
+rows c = c .check .last .1 .0
+
+abbrev printed : tie.After-check → List ℕ
+printed c = let p = counted c in take (end p) (rows c ++ drop (end p) (lent p .args .sheet .now))
+
+printed-rows : (c : tie.After-check) → printed c ≡ rows c
+printed-rows c = let p = counted c in front-written (rows c) (lent p .args .sheet .now) (end p) (c .check .kept .1 .0) (fits p)
+
+printed-long : (c : tie.After-check) → end (counted c) ≡ length (printed c)
+printed-long c = part-long (counted c) ∙ sym (ap length (printed-rows c) ∙ c .check .kept .1 .0)
+
+-- The buffer has room for the text of a table that is accepted.
+room : (c : tie.After-identifiers) → let k = accepting c in let p = counted k in
+    length (linesOf (c .identifiers .result) (p .places .result) (printed k) ++ acceptedLine) ≤ length (lent p .args .out .now)
+room c =
+    let k = accepting c in
+    let p = counted k in
+    omega (arith, accepted-short (c .identifiers .result) (p .places .result) (printed k) (p .places .ensures .1), lent p .pre .1)
 
 refused-requires : tie.Need-refused-requires
 refused-requires c κs =
-    let a = c .before .before in
-    let b = a .before .before .before .before .before .before .before .before .before .before in
-    let r = a .checked .given .0 .0 in
-    omega (arith, refusal-short (r .number) (r .place) (search needs) (search needs), b .pre .1)
-
-enum-told : tie.Need-enum-told
-enum-told c = search needs
-
-identifiers-requires : tie.Need-identifiers-requires
-identifiers-requires c κs = search needs
-
-slice-reshare-prefix-accepted : tie.Need-slice-reshare-prefix-accepted
-slice-reshare-prefix-accepted c = search needs
-
-slice-aggregate-accepted : tie.Need-slice-aggregate-accepted
-slice-aggregate-accepted c =
-    let a = c .before .before .before .before .before .before .before in
-    let b = a .before .before in
-    let d = b .before .before .before .before in
-    let count = b .places .result in
-    let sheet = d .args .sheet .now in
-    let fits : 64 * count ≤ length sheet = omega (arith, b .places .ensures .1, d .pre .0) in
-    let rows = a .check .last .1 .0 in
-    let kept = a .check .kept .1 .0 in
-    let front = front-written rows sheet (64 * count) kept fits in
-    sym (ap length front ∙ kept ∙ length-take-le (64 * count) sheet fits)
+    let d = c .before .before in
+    let r = d .checked .given .0 .0 in
+    omega (arith, refusal-short (r .number) (r .place) (search needs) (search needs), lent (counted (refusing d)) .pre .1)
 
 accepted-requires : tie.Need-accepted-requires
-accepted-requires c κs =
-    let a = c .before .before .before .before .before .before .before in
-    let b = a .before .before in
-    let d = b .before .before .before .before in
-    let count = b .places .result in
-    let sheet = d .args .sheet .now in
-    let fits : 64 * count ≤ length sheet = omega (arith, b .places .ensures .1, d .pre .0) in
-    let rows = a .check .last .1 .0 in
-    let kept = a .check .kept .1 .0 in
-    let front = front-written rows sheet (64 * count) kept fits in
-    let short = accepted-short (c .before .identifiers .result) count (take (64 * count) (rows ++ drop (64 * count) sheet)) (b .places .ensures .1) in
-    (omega (arith, ap length front, kept, length-take-le (64 * count) sheet fits), omega (arith, short, d .pre .1))
-
-same-length : tie.Need-same-length
-same-length c = search needs
-
-same-length-2 : tie.Need-same-length-2
-same-length-2 c = search needs
+accepted-requires c κs = (omega (arith, printed-long (accepting (c .before))), room (c .before))
 
 returns : tie.Need-returns
 returns c =
-    let a = c .before .before in
-    let b = a .before .before in
-    let d = b .before in
-    let e = d .before .before .before .before in
-    let f = e .before .before in
-    let g = f .before .before .before .before in
+    let e = c .before .before in
+    let t = e .before .before in
+    let d = t .before in
+    let k = refusing d in
+    let p = counted k in
     let r = d .checked .given .0 .0 in
-    let short = refusal-short (r .number) (r .place) (omega (arith, b .known-told .given)) (omega (arith, b .known-told .given)) in
-    let count = f .places .result in
-    let sheet = g .args .sheet .now in
-    let fits : 64 * count ≤ length sheet = omega (arith, f .places .ensures .1, g .pre .0) in
-    whole-text (a .refused .ensures) (omega (arith, short, g .pre .1))
-    (listing-refused (g .args .table .now) count _ _ _ (f .places .ensures .0) (sym (length-take-le (64 * count) sheet fits))
-    (sym (ap answerOf (d .checked .given .1)) ∙ e .check .ensures .0))
-
-same-length-3 : tie.Need-same-length-3
-same-length-3 c = search needs
-
-same-length-4 : tie.Need-same-length-4
-same-length-4 c = search needs
+    let short = refusal-short (r .number) (r .place) (omega (arith, t .known-told .given)) (omega (arith, t .known-told .given)) in
+    whole-text (e .refused .ensures) (omega (arith, short, lent p .pre .1))
+    (listing-refused (lent p .args .table .now) (p .places .result) _ _ _ (p .places .ensures .0) (part-long p)
+    (sym (ap answerOf (d .checked .given .1)) ∙ k .check .ensures .0))
 
 returns-2 : tie.Need-returns-2
 returns-2 c =
-    let a = c .before .before in
-    let b = a .before .before in
-    let d = b .before .before in
-    let e = d .before .before .before .before in
-    let f = e .before .before in
-    let g = f .before .before .before .before in
-    let count = f .places .result in
-    let sheet = g .args .sheet .now in
-    let fits : 64 * count ≤ length sheet = omega (arith, f .places .ensures .1, g .pre .0) in
-    let rows = e .check .last .1 .0 in
-    let kept = e .check .kept .1 .0 in
-    let front = front-written rows sheet (64 * count) kept fits in
-    let i = b .identifiers .result in
-    let short = accepted-short i count (take (64 * count) (rows ++ drop (64 * count) sheet)) (f .places .ensures .1) in
-    let written = ap (λ l. linesOf i count l ++ acceptedLine) front in
-    whole-text (a .accepted .ensures) (omega (arith, short, g .pre .1))
-    (written ∙ listing-accepted (g .args .table .now) i count _ rows (take (64 * count) sheet) (b .identifiers .ensures) (f .places .ensures .0)
-    (sym (length-take-le (64 * count) sheet fits)) (sym (ap answerOf (d .enum-told .given .1)) ∙ e .check .ensures .0)
-    (e .check .ensures .1))
+    let e = c .before .before in
+    let n = e .before .before in
+    let k = accepting n in
+    let p = counted k in
+    let i = n .identifiers .result in
+    let written = ap (λ l. linesOf i (p .places .result) l ++ acceptedLine) (printed-rows k) in
+    let told = n .before .before .enum-told .given .1 in
+    whole-text (e .accepted .ensures) (room n)
+    (written ∙ listing-accepted (lent p .args .table .now) i (p .places .result) _ (rows k) (part p) (n .identifiers .ensures) (p .places .ensures .0)
+    (part-long p) (sym (ap answerOf told) ∙ k .check .ensures .0) (k .check .ensures .1))
 
 pub list-spec : {M : Type 1} → statement M
 list-spec =
     tie.close
     (tie.spec
-    places-requires
-    mul-end
-    slice-relend-prefix-check
-    slice-aggregate-check
-    check-requires
-    enum-known-checked
+    (λ c κs. search needs)
+    (λ c. search needs)
+    (λ c. search needs)
+    (λ c. part-long (c .before))
+    (λ c κs. search needs)
+    (λ c. search needs)
     refused-requires
-    enum-told
-    identifiers-requires
-    slice-reshare-prefix-accepted
-    slice-aggregate-accepted
+    (λ c. search needs)
+    (λ c κs. search needs)
+    (λ c. search needs)
+    (λ c. printed-long (accepting (c .before)))
     accepted-requires
-    same-length
-    same-length-2
+    (λ c. search needs)
+    (λ c. search needs)
     returns
-    same-length-3
-    same-length-4
+    (λ c. search needs)
+    (λ c. search needs)
     returns-2)

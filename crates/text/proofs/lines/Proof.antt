@@ -1,4 +1,4 @@
--- The invariant: the lines from place p on remain to be written.
+-- The invariant: the lines from place p on remain to be written; a turn takes the line of p off their front. Landmark: what was lent.
 use Prim.Native.Nat.{_+_, _*_, _-_, _≤_}
 use native.Mathlib.Omega.{arith}
 use lib.ListN.{take, drop}
@@ -14,6 +14,9 @@ Inv-loop out₀ identifiers count sheet at₀ p₀ out at p =
 
 abbrev μ-loop : tie.MeasureT-loop
 μ-loop out₀ identifiers count sheet at₀ p₀ out at p = count - p
+
+abbrev lent : tie.At-loop Inv-loop μ-loop → tie.Start Inv-loop μ-loop
+lent c = c .before .before .before
 
 loop-holds : tie.Need-loop-holds Inv-loop μ-loop
 loop-holds c = (search needs, lines-start _ _ _ _)
@@ -37,7 +40,7 @@ line-requires : tie.Need-line-requires Inv-loop μ-loop
 line-requires c κs =
     let a = c .before .before in
     let b = a .before in
-    let d = b .before .before .before in
+    let d = lent b in
     let p = b .loop .p in
     let sheet = d .args .sheet .now in
     let i = d .args .identifiers in
@@ -57,7 +60,7 @@ loop-again c =
     let a = c .before .before in
     let b = a .before .before .before in
     let d = b .before in
-    let e = d .before .before .before in (
+    let e = lent d in (
       search needs,
       remains-turn (d .loop .inv .1) (lines-more _ _ _ _ _ (b .loop-test .taken) (part-row (e .args .sheet .now) (d .loop .p)))
           (a .line .ensures),
@@ -68,7 +71,7 @@ same-length c = c .before .loop .inv .1 .kept
 
 returns : tie.Need-returns Inv-loop μ-loop
 returns c =
-    let a = c .before .before .before .before in
+    let a = lent (c .before) in
     remains-end (c .before .loop .inv .1)
     (lines-end (a .args .identifiers) (a .args .count) (a .args .sheet .now) (c .before .loop .p) (c .loop-test .left))
 

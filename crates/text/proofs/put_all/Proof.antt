@@ -1,4 +1,4 @@
--- The invariant: the bytes from i on remain to be written.
+-- The invariant: the bytes from i on remain to be written; a turn takes one off their front. Landmark: what was lent.
 use Prim.Native.Nat.{_+_, _-_, _≤_}
 use mathlib.Core.List.{[], _∷_}
 use native.Mathlib.Omega.{arith}
@@ -14,6 +14,9 @@ Inv-loop out₀ at text next₀ i₀ out next i = (i ≤ length text) × Remains
 abbrev μ-loop : tie.MeasureT-loop
 μ-loop out₀ at text next₀ i₀ out next i = length text - i
 
+abbrev lent : tie.At-loop Inv-loop μ-loop → tie.Start Inv-loop μ-loop
+lent c = c .before .before .before
+
 loop-holds : tie.Need-loop-holds Inv-loop μ-loop
 loop-holds c = (search needs, remains-start _ _ _)
 
@@ -24,7 +27,7 @@ put-requires : tie.Need-put-requires Inv-loop μ-loop
 put-requires c κs =
     let a = c .before .before in
     let b = a .before in
-    let d = b .before .before .before in
+    let d = lent b in
     let i = b .loop .i in
     let text = d .args .text .now in
     omega (arith, remains-room (getD text i 0 ∷ []) (drop (i + 1) text) (b .loop .inv .1) (d .pre) (text-more text i (a .loop-test .taken)))
@@ -46,7 +49,7 @@ same-length : tie.Need-same-length Inv-loop μ-loop
 same-length c = c .before .loop .inv .1 .kept
 
 returns : tie.Need-returns Inv-loop μ-loop
-returns c = remains-end (c .before .loop .inv .1) (text-end (c .before .before .before .before .args .text .now) (c .before .loop .i) (omega arith))
+returns c = let l = c .before in remains-end (l .loop .inv .1) (text-end (lent l .args .text .now) (l .loop .i) (omega arith))
 
 pub put-all-spec : {M : Type 1} → statement M
 put-all-spec =

@@ -1,4 +1,5 @@
--- The invariant: the codes from i on, up to the fill, remain to be written.
+-- The invariant: the codes from i on, up to the fill, remain to be written; a turn takes one off their front, and the fill ends them. Landmark: what
+-- was lent.
 use Prim.Native.Nat.{_+_, _-_, _≤_}
 use native.Mathlib.Omega.{arith}
 use lib.ListN.{length, drop, getD}
@@ -13,6 +14,9 @@ Inv-loop out₀ at row next₀ i₀ out next i = (i ≤ length row) × Remains o
 
 abbrev μ-loop : tie.MeasureT-loop
 μ-loop out₀ at row next₀ i₀ out next i = length row - i
+
+abbrev lent : tie.At-loop Inv-loop μ-loop → tie.Start Inv-loop μ-loop
+lent c = c .before .before .before
 
 loop-holds : tie.Need-loop-holds Inv-loop μ-loop
 loop-holds c = (search needs, remains-start _ _ _)
@@ -30,7 +34,7 @@ put-hex-requires : tie.Need-put-hex-requires Inv-loop μ-loop
 put-hex-requires c κs =
     let a = c .before .before .before in
     let b = a .before in
-    let d = b .before .before .before in
+    let d = lent b in
     let i = b .loop .i in
     let row = d .args .row .now in
     remains-room (hexByte (getD row i 0)) (hexOf (unfilled (drop (i + 1) row))) (b .loop .inv .1) (d .pre)
@@ -54,7 +58,7 @@ same-length-2 : tie.Need-same-length-2 Inv-loop μ-loop
 same-length-2 c = c .before .loop .inv .1 .kept
 
 returns-2 : tie.Need-returns-2 Inv-loop μ-loop
-returns-2 c = remains-end (c .before .loop .inv .1) (codes-end (c .before .before .before .before .args .row .now) (c .before .loop .i) (omega arith))
+returns-2 c = let l = c .before in remains-end (l .loop .inv .1) (codes-end (lent l .args .row .now) (l .loop .i) (omega arith))
 
 pub put-codes-spec : {M : Type 1} → statement M
 put-codes-spec =

@@ -1,3 +1,0 @@
--- Laws of the places of a table and of the sheet.
-pub mod Scan
-pub mod Sheet

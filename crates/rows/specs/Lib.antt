@@ -1,2 +1,0 @@
--- What the functions over the places of a table say.
-pub mod Rows
