@@ -262,9 +262,9 @@ abbrev unreadable_cases : List Case
 unreadable_cases =
     -- `occurrences` that counts a child once however often it stands: x∈x with one node for both
     record { words = set p1_words 20 0; buffer = element1; budget = 100; ends = refused 7 0; steps = 0 } ∷
-    -- `occursIn` that takes a binder's range for its scope
+    -- `occurs_in` that takes a binder's range for its scope
     plain used_in_range (refused 9 0) 0 ∷
-    -- another `heightLimit`, a `height` that is off by one: heights 27 and 28 (document 02, N11)
+    -- another `height_limit`, a `height` that is off by one: heights 27 and 28 (document 02, N11)
     plain (negated 25) (done false) 28 ∷ plain (negated 26) (refused 8 28) 0 ∷ []
 
 -- Document 02, N1
@@ -276,7 +276,7 @@ no_clauses_cases =
     -- a run that does not wait for 14, or for 9 at a bound identifier
     at_budget 0 (no_clauses (0 ∷ [])) [] (refused 14 0) 0 ∷ at_budget 0 (no_clauses []) element1 (refused 14 0) 0 ∷
     at_budget 0 (no_clauses (0 ∷ 1 ∷ [])) element1 (refused 9 1) 0 ∷
-    -- `laidOut` that does not look at the length: a word too many
+    -- `laid_out` that does not look at the length: a word too many
     record { words = words_of (no_clauses []) ++ (0 ∷ []); buffer = []; budget = 0; ends = refused 3 0; steps = 0 } ∷ []
 
 -- The cells of n integers from i on.
@@ -294,13 +294,13 @@ bound_first = table [] (1 ∷ 0 ∷ []) (lit 1 ∷ lit 2 ∷ node₂ 41 0 1 ∷ 
 -- P1 at values that pass 14 is refused with 15 where they are no elements.
 abbrev buffer_cases : List Case
 buffer_cases =
-    -- `nothingLeft` that lets a byte too many through, or has another place
+    -- `nothing_left` that lets a byte too many through, or has another place
     valued p1 (element1 ++ (0 ∷ [])) (refused 14 1) 0 ∷
-    -- `valuesFrom` with another order or place: x≤y at 1 and 2, and y cut short
+    -- `values_from` with another order or place: x≤y at 1 and 2, and y cut short
     valued two_free (to_bytes (1 ∷ 1 ∷ 2 ∷ 1 ∷ [])) (done true) 3 ∷ valued two_free (to_bytes (1 ∷ 1 ∷ [])) (refused 14 1) 0 ∷
-    -- `valueFor` that takes a value for a bound identifier, `◌with◌≔◌` that changes the others: ∀x∈1..2·y≤x at 2
+    -- `value_for` that takes a value for a bound identifier, `◌with◌≔◌` that changes the others: ∀x∈1..2·y≤x at 2
     valued bound_first (to_bytes (2 ∷ 1 ∷ [])) (done false) 7 ∷
-    -- `scalarGood` that has an element for the size, or for a set beyond G
+    -- `scalar_good` that has an element for the size, or for a set beyond G
     valued p1 (to_bytes (2 ∷ 3 ∷ [])) (refused 14 0) 0 ∷ valued p1 (to_bytes (256 ∷ 3 ∷ [])) (refused 14 0) 0 ∷
     -- `good` that refuses the weight 256
     valued p1 (to_bytes (255 ∷ 5 ∷ integer_cells 0 255)) (refused 15 2) 3 ∷ []
@@ -337,7 +337,7 @@ applied_at f e =
 -- Document 02, N2
 abbrev application_cases : List Case
 application_cases =
-    -- `pairedWith` that takes any first part; equal second parts, as any function may have
+    -- `paired_with` that takes any first part; equal second parts, as any function may have
     applied_at (two_pairs (integer_cell 1) 5 (integer_cell 2) 6) (integer_cell 2) (done true) 5 ∷
     applied_at (two_pairs (integer_cell 1) 6 (integer_cell 2) 6) (integer_cell 1) (done true) 5 ∷
     -- outside the domain of a function, and of one that has no pairs
@@ -349,7 +349,7 @@ application_cases =
     -- `applied` that gives a value outside the domain of a relation that is no function; 15 comes first
     applied_at (two_pairs (integer_cell 1) 5 (integer_cell 1) 6) (integer_cell 2) (refused 16 2) 4 ∷
     applied_at (two_pairs (integer_cell 1) 5 (integer_cell 1) 6) (1 ∷ 2 ∷ []) (refused 15 2) 4 ∷
-    -- `sharesFirst` that compares less than the whole first part: (1,2) and (1,3), ∅ and {1}; the same first part twice
+    -- `shares_first` that compares less than the whole first part: (1,2) and (1,3), ∅ and {1}; the same first part twice
     applied_at (two_pairs (pair_cells (integer_cell 1) (integer_cell 2)) 5 (pair_cells (integer_cell 1) (integer_cell 3)) 6)
     (pair_cells (integer_cell 1) (integer_cell 3)) (done true) 5 ∷
     applied_at (two_pairs (pair_cells (integer_cell 1) (integer_cell 2)) 5 (pair_cells (integer_cell 1) (integer_cell 2)) 6)
@@ -383,7 +383,8 @@ order_cases =
     -- one level only: sets of sets of sets, and of pairs of sets
     least_is (two_in_set (one_in_set (of_two 2 3)) (one_in_set (of_two 1 4))) (one_in_set (of_two 2 3)) (done true) 4 ∷
     least_is (two_in_set (one_in_set (of_two 1 4)) (one_in_set (of_two 2 3))) (one_in_set (of_two 1 4)) (refused 14 0) 0 ∷
-    least_is (two_in_set (pair_cells (of_two 2 3) (integer_cell 9)) (pair_cells (of_two 1 4) (integer_cell 0))) (pair_cells (of_two 2 3) (integer_cell 9)) (done true) 4 ∷
+    least_is (two_in_set (pair_cells (of_two 2 3) (integer_cell 9)) (pair_cells (of_two 1 4) (integer_cell 0))) (pair_cells (of_two 2 3) (integer_cell 9))
+    (done true) 4 ∷
     -- pairs from right to left: (1,{1,4}) precedes (2,{2,3})
     least_is (two_in_set (pair_cells (integer_cell 1) (of_two 1 4)) (pair_cells (integer_cell 2) (of_two 2 3)))
     (pair_cells (integer_cell 1) (of_two 1 4)) (done true) 4 ∷ []
@@ -399,7 +400,7 @@ run_cases =
     plain (joined_tests 5 2 1) (done false) 7 ∷ plain (joined_tests 5 2 2) (done true) 7 ∷
     -- a negation that hands its operand on
     plain (negated 1) (done false) 4 ∷
-    -- `weightLimit` below 256: 1..255 weighs 256
+    -- `weight_limit` below 256: 1..255 weighs 256
     plain (test_ranges 6 255 1) (done false) 7 ∷ []
 
 abbrev pub cases : List Case
@@ -448,7 +449,7 @@ pub merges_right :
 unfolding merged comparisons
 merges_right = (refl, refl, refl, refl, refl, refl, refl, refl, refl, refl)
 
--- `isFunction` does not rely on the order of the members: here the pairs that share a first part are no neighbours.
+-- `is_function` does not rely on the order of the members: here the pairs that share a first part are no neighbours.
 pub apart_no_function :
     is_function (set_with (pair (integer 2) (integer 5) ∷ pair (integer 1) (integer 6) ∷ pair (integer 2) (integer 7) ∷ [])) ≡ false
 unfolding is_function

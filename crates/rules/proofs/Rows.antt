@@ -1,5 +1,5 @@
 -- Document 01, "Conditions tried": P1 to P12 as the rows of one table, with what Check and Evaluate say of them: Check's answer
--- with the sheet, the end, the steps, and the values formed in their order. `conditions-right` in Tried.antt is the theorem over
+-- with the sheet, the end, the steps, and the values formed in their order. `conditions_right` in Tried.antt is the theorem over
 -- these rows; its part for Evaluate is computed here. What builds tables serves the further cases of Cases.antt too.
 use Prim.Native.Nat.{ℕ, ◌+◌, ◌*◌, ◌-◌}
 use mathlib.Core.List.{List, [], ◌∷◌, ◌++◌, map}

@@ -43,7 +43,7 @@ FitAt (p ∷ ps) (v ∷ vs) t u = HasType v (inst p t u) × FitAt ps vs t u
 abbrev pub Fits : List Pattern → List Value → Type 0
 Fits ps vs = (t : Ty) × (u : Ty) × FitAt ps vs t u
 
--- What follows computes `Fits`; `fits-right` in proofs/FitsLaws.antt says that it does.
+-- What follows computes `Fits`; `fits_right` in proofs/FitsLaws.antt says that it does.
 
 abbrev pub same_number : Number → Number → Bool
 same_number whole m = elim m [ whole ↦ true ]

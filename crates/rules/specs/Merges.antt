@@ -5,7 +5,6 @@ use Rattle.rules.specs.Values.{Value, weight, order}
 use Rattle.rules.specs.Kinds.{union}
 use Rattle.rules.specs.Rules.{two_rule}
 use Rattle.rules.specs.Fits.{fits}
-use Rattle.rules.specs.Tables.{Table}
 use Rattle.rules.specs.Ends.{End, done, ◌>>=◌}
 use Rattle.rules.specs.Reading.{reading}
 use Rattle.rules.specs.Cells.{weight_limit, values_in}

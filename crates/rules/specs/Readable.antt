@@ -1,4 +1,4 @@
--- What the layers above may rest on: the facts of a table that passes refusals 1 to 9. `reading-right` in
+-- What the layers above may rest on: the facts of a table that passes refusals 1 to 9. `reading_right` in
 -- proofs/ReadingLaws.antt says that `reading` passes exactly these.
 use Rattle.std.specs.Prelude.{ℕ, zero, suc, ◌≤◌, ◌<◌, Bool, false, List, [], ◌∷◌, ◌≡◌, get_or, length}
 use Rattle.std.proofs.Math.Option.{Option, none as nothing, some}

@@ -1,5 +1,5 @@
 -- Document 01, "Table of a condition" and refusals 1 to 9: which bytes are a readable table, and what is wrong with others.
-use Rattle.std.specs.Prelude.{ℕ, zero, suc, ◌+◌, ◌-◌, max, Bool, true, false, not, ◌&&◌, ◌||◌, cond, List, [], ◌∷◌, eqb, leb, ltb, get_or, length}
+use Rattle.std.specs.Prelude.{ℕ, zero, suc, ◌+◌, max, Bool, true, false, not, ◌&&◌, ◌||◌, cond, List, [], ◌∷◌, eqb, leb, ltb, get_or, length}
 use Rattle.std.proofs.Math.Option.{Option, none as nothing, some}
 use Rattle.rules.specs.Kinds.{Kind, kind_of, Category, predicate, expression, category_of, is_predicate, is_expression}
 use Rattle.rules.specs.Kinds.{Field, unused, child, use_of, binder_of, set_number, element_number, any_word, truth_bit, is_child, is_binder}

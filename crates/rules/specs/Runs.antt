@@ -1,5 +1,5 @@
 -- Document 01, "Values and evaluation": a run has an end, the visits made, and the values formed at the nodes.
-use Rattle.std.specs.Prelude.{ℕ, suc, ◌+◌, List, [], ◌∷◌, ◌++◌, Bool, true, false, ltb, leb}
+use Rattle.std.specs.Prelude.{ℕ, suc, List, [], ◌∷◌, ◌++◌, Bool, true, false, ltb, leb}
 use Rattle.std.proofs.Math.Option.{Option, none as nothing, some}
 use Rattle.rules.specs.Values.{Value, weight}
 use Rattle.rules.specs.Cells.{weight_limit}

@@ -90,7 +90,7 @@ only_type (some []) = nothing
 only_type (some (t ∷ [])) = some t
 only_type (some (t ∷ u ∷ ts)) = nothing
 
--- The type whose row these 64 bytes are; nothing where they are the row of none. `typeOfRow-right` in proofs/TypeLaws.antt says
+-- The type whose row these 64 bytes are; nothing where they are the row of none. `type_of_row_right` in proofs/TypeLaws.antt says
 -- that it is so.
 unfoldable pub type_of_row : List ℕ → Option Ty
 unfolding types_in
