@@ -1,6 +1,6 @@
 -- Document 01, "Values and evaluation": a condition's truth and an expression's value in terms of sets alone, with no visits, order, budget
--- or refusal (`Trueᵖ`, `Denotes`), and that they are what evaluation answers: `evaluation-means`. An expression has at most one value
--- (`denotes-only`); it has none where choice or application lacks one, or a number leaves its bounds. Where a refusal ends the evaluation,
+-- or refusal (`Trueᵖ`, `Denotes`), and that they are what evaluation answers: `evaluation_means`. An expression has at most one value
+-- (`denotes_only`); it has none where choice or application lacks one, or a number leaves its bounds. Where a refusal ends the evaluation,
 -- nothing is said.
 use Prim.Native.Nat.{ℕ, ◌≤◌}
 use mathlib.Core.Bool.{Bool, true, false, beq}

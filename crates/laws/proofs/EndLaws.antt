@@ -1,4 +1,4 @@
--- Laws of Ends.antt: what a search for the least failing number finds, when `requireAll` goes on, and how a row of
+-- Laws of Ends.antt: what a search for the least failing number finds, when `require_all` goes on, and how a row of
 -- tests ends. A test that passes is written `ok j ≡ true`, one that fails `ok j ≡ false`; `T` where a proposition is read off.
 use Prim.Native.Nat.{ℕ, zero, suc, ◌+◌, ◌≤◌, ◌<◌}
 use mathlib.Core.Bool.{Bool, true, false, ◌&&◌, true≢false, false≢true}
@@ -49,7 +49,7 @@ t_all_below ok (suc n) = (
     go j l t f (yes e) = rw e t
     go j l t f (no e) = f j (omega arith)
 
--- `doneWith` passes exactly where there is an answer that does.
+-- `done_with` passes exactly where there is an answer that does.
 pub t_done_with : {A : Type 0} (e : End A) (ok : A → Bool) → T (done_with e ok) ↔ ((a : A) × (e ≡ done a) × T (ok a))
 t_done_with (done a) ok = (λ t. (a, refl, t), λ x. let f : a ≡ x.0 = cc x.1 in rw f x.2)
 t_done_with (refused r p) ok = (λ t. absurd t, λ x. absurd01 (cc x.1))
@@ -75,7 +75,7 @@ module _ (ok : ℕ → Bool) where
   sought_pick i n true o e s = sought_pass i n o e s
   sought_pick i n false o e s = (omega arith, omega arith, e, λ j lo hi. absurd (omega arith))
 
-  -- `leastFailing` gives a right answer,
+  -- `least_failing` gives a right answer,
   pub sought : (i n : ℕ) → Sought ok i n (least_failing ok i n)
   unfolding least_failing
   sought i zero = λ j lo hi. absurd (omega arith)
@@ -127,7 +127,7 @@ pub unless_found_refused : (r : ℕ) (o : Option ℕ) (s p : ℕ) → unless_fou
 unless_found_refused r nothing s p e = (cc, cc)
 unless_found_refused r (some q) s p e = (cc, cc)
 
--- `requireAll` goes on exactly where each number below n passes.
+-- `require_all` goes on exactly where each number below n passes.
 pub require_all_done : (r : ℕ) (ok : ℕ → Bool) (n : ℕ) → (require_all r ok n ≡ done tt) ↔ ((j : ℕ) → j < n → ok j ≡ true)
 unfolding require_all
 require_all_done r ok n = (

@@ -1,4 +1,4 @@
--- The tests on values are right: `typed v` says that v has a type, `fits ps vs` (refusal 15) that some t and u fit, `hasType v t`
+-- The tests on values are right: `typed v` says that v has a type, `fits ps vs` (refusal 15) that some t and u fit, `has_type v t`
 -- that v has t.
 use mathlib.Core.List.{List, [], ◌∷◌}
 use mathlib.Core.Bool.{Bool, true, false, cond}
@@ -33,7 +33,7 @@ pow_product F H (atom a) h k = h
 pow_product F H (POW t) h k = k
 pow_product F H (t ⊗ u) h k = h
 
--- `sameAtom` is equality: there and back.
+-- `same_atom` is equality: there and back.
 pub same_atom_law : (a b : Atom) → T (same_atom a b) → a ≡ b
 same_atom_law (number whole) (number whole) h = refl
 same_atom_law (number whole) bool h = absurd h
@@ -281,7 +281,7 @@ exactly_inst (atom x) a b = refl
 exactly_inst (POW t) a b = ap POW (exactly_inst t a b)
 exactly_inst (t ⊗ u) a b = ap₂ ◌⊗◌ (exactly_inst t a b) (exactly_inst u a b)
 
--- `hasType` says that a value has a type.
+-- `has_type` says that a value has a type.
 pub has_type_right : (v : Value) (t : Ty) → T (has_type v t) ↔ HasType v t
 unfolding has_type
 has_type_right v t = (

@@ -24,7 +24,7 @@ use Rattle.rules.specs.Reading.{reading}
 use Rattle.rules.specs.Readable.{Records, FieldsRight}
 use Rattle.rules.specs.Cells.{well_formed, good, weight_limit, no_value, Read, value}
 use Rattle.rules.specs.Cells.{or_fault, value_for, nothing_left, values_from, values_in}
-use Rattle.rules.specs.Runs.{Trace, M, go_on, ◌>>=◌, demand, counted, visit, emit, form, ◌or_else◌, Given, gives, lacks}
+use Rattle.rules.specs.Runs.{Trace, M, return, go_on, ◌>>=◌, demand, counted, visit, emit, form, ◌or_else◌, Given, gives, lacks}
 use Rattle.rules.specs.Operations.{elems, set_of, elements_from, Env, ◌with◌≔◌, decides, leaf_value, one_value, two_value}
 use Rattle.rules.specs.Evaluation.{fitting, quantify, select, holdsᵖ, valueᵉ, holdsᶜ, run, evaluation}
 use Rattle.laws.proofs.TableLaws.{IfSome, condition_has}
@@ -220,11 +220,15 @@ module _ (gs : List ℕ) where
   quantify_forms for_all f [] hf h = λ s. (tt, tt)
   quantify_forms for_all f (v ∷ vs) hf h =
       let r = quantify_forms for_all f vs hf h.1 in
-      bind GoodAt Any Any (f v) _ (hf v h.0) (λ b _. elim b [ true ↦ r | false ↦ λ s. (tt, tt) ])
+      bind GoodAt Any Any (f v) _ (hf v h.0)
+      (λ b _. elim b as (λ k. Forms GoodAt Any (elim k as (λ _. M Bool) [ true ↦ quantify for_all f vs | false ↦ return false ]))
+      [ true ↦ r | false ↦ λ s. (tt, tt) ])
   quantify_forms for_some f [] hf h = λ s. (tt, tt)
   quantify_forms for_some f (v ∷ vs) hf h =
       let r = quantify_forms for_some f vs hf h.1 in
-      bind GoodAt Any Any (f v) _ (hf v h.0) (λ b _. elim b [ true ↦ λ s. (tt, tt) | false ↦ r ])
+      bind GoodAt Any Any (f v) _ (hf v h.0)
+      (λ b _. elim b as (λ k. Forms GoodAt Any (elim k as (λ _. M Bool) [ true ↦ return true | false ↦ quantify for_some f vs ]))
+      [ true ↦ λ s. (tt, tt) | false ↦ r ])
 
   -- What `select` gives has P where its list has, and rises where its list does.
   select_forms : (f : Value → M Bool) (vs : List Value) (P : Value → Type 0) → ((w : Value) → Good w → Forms GoodAt Any (f w)) →
@@ -238,7 +242,10 @@ module _ (gs : List ℕ) where
       bind GoodAt Q (λ ws. All P ws × Rising ws) (select f vs) _ rest λ ws q.
       let p = all_imp (λ w. P w × Before v w) P (λ w x. x.0) ws q.0 in
       let l = all_imp (λ w. P w × Before v w) (Before v) (λ w x. x.1) ws q.0 in
-      elim b [ true ↦ λ s. (((k.0, p), (l, q.1)), tt) | false ↦ λ s. ((p, q.1), tt) ]
+      elim b as (λ x. Forms GoodAt (λ us. All P us × Rising us) (elim x as (λ _. M (List Value)) [ true ↦ return (v ∷ ws) | false ↦ return ws ])) [
+        | true ↦ λ s. (((k.0, p), (l, q.1)), tt)
+        | false ↦ λ s. ((p, q.1), tt)
+      ]
 
   -- The leaves of a tree name only elements that exist.
   abbrev mutual
@@ -463,7 +470,7 @@ values_in_ended : (tb : Table) (bs : List ℕ) (vs : List Value) → values_in t
 unfolding values_in
 values_in_ended tb bs vs e = rw e at (values_from_ended tb.sizes tb.binds 0 bs)
 
--- The values of a buffer that passes are good; a bound identifier has `noValue`, which is good too.
+-- The values of a buffer that passes are good; a bound identifier has `no_value`, which is good too.
 pub values_in_good : (tb : Table) (bs : List ℕ) (vs : List Value) → values_in tb bs ≡ done vs →
     (x : ℕ) → T (good tb.sizes (get_or vs x no_value))
 values_in_good tb bs vs e x = all_at (Good tb.sizes) vs no_value (values_in_ended tb bs vs e).0 (no_value_good tb.sizes) x

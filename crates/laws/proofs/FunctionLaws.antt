@@ -1,4 +1,4 @@
--- Document 02, N2: when the test `isFunction` of 37 passes. It fails exactly where two different members of f share a first part, so
+-- Document 02, N2: when the test `is_function` of 37 passes. It fails exactly where two different members of f share a first part, so
 -- it passes exactly where members that share one are equal.
 use mathlib.Core.Bool.{Bool, true, false, not}
 use mathlib.Core.Logic.{◌↔◌}
@@ -27,7 +27,7 @@ abbrev pub SharedFirst : Value → Type 0
 SharedFirst f = (x : Value) × (y : Value) × In x (elems f) × In y (elems f) × (x ≡ y → ⊥) × (left x ≡ left y)
 
 module _ (f : Value) (small : All Small (elems f)) where
-  -- What `isFunction` denies.
+  -- What `is_function` denies.
   abbrev some_shared : Bool
   some_shared = any_of (λ x. any_of (shares_first x) (elems f)) (elems f)
 

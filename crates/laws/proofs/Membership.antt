@@ -157,7 +157,7 @@ pub members_values : (vs : List Value) → members (values vs) ≡ vs
 members_values [] = refl
 members_values (v ∷ vs) = ap (λ (ws : List Value). v ∷ ws) (members_values vs)
 
--- The test `isIn` is membership, and `allIn` is inclusion.
+-- The test `is_in` is membership, and `all_in` is inclusion.
 or_iff : (a b : Bool) → T (a || b) ↔ (T a ⊎ T b)
 or_iff true b = (λ h. inl tt, λ h. tt)
 or_iff false b = (λ h. inr h, λ h. go h)

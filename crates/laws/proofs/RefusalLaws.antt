@@ -22,7 +22,7 @@ use Rattle.rules.specs.Ends.{End, done, refused, require}
 use Rattle.rules.specs.Reading.{reading}
 use Rattle.rules.specs.Readable.{Records}
 use Rattle.rules.specs.Cells.{in_range, weight_limit, no_value, Read, value, good, or_fault, value_for, nothing_left, values_from, values_in}
-use Rattle.rules.specs.Runs.{Trace, Run, M, go_on, ◌>>=◌, ◌>>◌, demand, counted, visit, emit, form, ◌or_else◌, Given, gives, lacks}
+use Rattle.rules.specs.Runs.{Trace, Run, M, return, go_on, ◌>>=◌, ◌>>◌, demand, counted, visit, emit, form, ◌or_else◌, Given, gives, lacks}
 use Rattle.rules.specs.Operations.{Env, ◌with◌≔◌, decides, elems, set_of, least, applied, ranged, leaf_value, one_value, two_value}
 use Rattle.rules.specs.Evaluation.{fitting, quantify, select, holdsᵖ, valueᵉ, holdsᶜ, run, evaluation}
 use Rattle.rules.specs.Merges.{free_values, first_two, union_in}
@@ -184,16 +184,23 @@ module _ (N budget : ℕ) where
     unfolding quantify
     quantify_stays for_all [] = λ s l. (l, tt)
     quantify_stays for_all (v ∷ vs) =
-        let r = quantify_stays for_all vs in bind (f v) _ (hf v) (λ b. elim b [ true ↦ r | false ↦ λ s l. (l, tt) ])
+        let r = quantify_stays for_all vs in
+        bind (f v) _ (hf v) (λ b. elim b as (λ k. Stays (elim k as (λ _. M Bool) [ true ↦ quantify for_all f vs | false ↦ return false ]))
+        [ true ↦ r | false ↦ λ s l. (l, tt) ])
     quantify_stays for_some [] = λ s l. (l, tt)
     quantify_stays for_some (v ∷ vs) =
-        let r = quantify_stays for_some vs in bind (f v) _ (hf v) (λ b. elim b [ true ↦ λ s l. (l, tt) | false ↦ r ])
+        let r = quantify_stays for_some vs in
+        bind (f v) _ (hf v) (λ b. elim b as (λ k. Stays (elim k as (λ _. M Bool) [ true ↦ return true | false ↦ quantify for_some f vs ]))
+        [ true ↦ λ s l. (l, tt) | false ↦ r ])
 
     select_stays : (vs : List Value) → Stays (select f vs)
     unfolding select
     select_stays [] = λ s l. (l, tt)
     select_stays (v ∷ vs) =
-        bind (f v) _ (hf v) λ b. bind (select f vs) _ (select_stays vs) λ ws. elim b [ true ↦ λ s l. (l, tt) | false ↦ λ s l. (l, tt) ]
+        bind (f v) _ (hf v) λ b.
+        bind (select f vs) _ (select_stays vs) λ ws.
+        elim b as (λ k. Stays (elim k as (λ _. M (List Value)) [ true ↦ return (v ∷ ws) | false ↦ return ws ]))
+        [ true ↦ λ s l. (l, tt) | false ↦ λ s l. (l, tt) ]
 
   -- The value rules at a node, at every environment.
   module _ (sizes : List ℕ) where

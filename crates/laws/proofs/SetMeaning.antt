@@ -1,7 +1,7 @@
 -- Document 01, "Values and evaluation", with document 02's N2: the operations' meaning for sets, with choice, application and
 -- intervals. For each kind, by clauses: what its operands say of the truth that a test has (`TestMeans`) and of the value that an
--- operation gives (`OneMeans`, `TwoMeans`, `LeafMeans`), by membership alone. `test-means`, `one-means`, `two-means` and `leaf-means`
--- say that the definitions of specs/Operations.antt have these meanings, `one_only` and `two-only` that nothing else has them.
+-- operation gives (`OneMeans`, `TwoMeans`, `LeafMeans`), by membership alone. `test_means`, `one_means`, `two_means` and `leaf_means`
+-- say that the definitions of specs/Operations.antt have these meanings, `one_only` and `two_only` that nothing else has them.
 -- ConditionMeaning.antt joins them to the meaning of a whole condition.
 --
 -- The operands are well formed and fit the kind's rule. Every value that an evaluation forms is well formed (FormedLaws.evaluation_good,
@@ -48,7 +48,7 @@ x ∈ v = In x (elems v)
 abbrev pub ◌⊆◌ : Value → Value → Type 0
 v ⊆ w = (x : Value) → x ∈ v → x ∈ w
 
--- A set: its members rise, so that none stands twice. The members alone decide which it is (`set-extensional`).
+-- A set: its members rise, so that none stands twice. The members alone decide which it is (`set_extensional`).
 abbrev pub SetValue : Value → Type 0
 SetValue v = (vs : List Value) × (v ≡ set_of vs) × Rising vs
 
@@ -61,7 +61,7 @@ abbrev pub Distinct : List Value → Type 0
 Distinct [] = Unit {0}
 Distinct (x ∷ xs) = (In x xs → ⊥) × Distinct xs
 
--- A set has n members: a list of n values, none of them twice, has the same members. There is one such n (`count-only`).
+-- A set has n members: a list of n values, none of them twice, has the same members. There is one such n (`count_only`).
 abbrev pub HasCount : Value → ℕ → Type 0
 HasCount v n = (xs : List Value) × Distinct xs × ((x : Value) → In x xs ↔ x ∈ v) × (length xs ≡ n)
 
@@ -213,7 +213,7 @@ count_only v n m h k =
     let b = distinct_length k.0 h.0 k.1 (λ x i. (h.2 x).1 ((k.2 x).0 i)) in
     omega (arith, a, b, h.3, k.3)
 
--- 41: i ≤ j exactly where j is i plus a natural number (`le-plus`, `le-distance`).
+-- 41: i ≤ j exactly where j is i plus a natural number (`le_plus`, `le_distance`).
 
 pub le_plus : (i : ℤ) (m : ℕ) → i ≤ℤ (i +ℤ pos m)
 le_plus (pos a) m = le_z_yes (le→leb a (a + m) (omega arith))

@@ -18,7 +18,7 @@ use Rattle.rules.specs.Ends.{End, done, refused}
 use Rattle.rules.specs.Reading.{reading}
 use Rattle.rules.specs.Readable.{Records}
 use Rattle.rules.specs.Cells.{weight_limit, no_value, values_in}
-use Rattle.rules.specs.Runs.{Trace, Run, M, go_on, ◌>>=◌, ◌>>◌, demand, counted, visit, emit, form, ◌or_else◌, Given, gives, lacks}
+use Rattle.rules.specs.Runs.{Trace, Run, M, return, go_on, ◌>>=◌, ◌>>◌, demand, counted, visit, emit, form, ◌or_else◌, Given, gives, lacks}
 use Rattle.rules.specs.Operations.{Env, ◌with◌≔◌, decides, elems, set_of, leaf_value, one_value, two_value}
 use Rattle.rules.specs.Evaluation.{fitting, quantify, select, holdsᵖ, valueᵉ, holdsᶜ, run, evaluation}
 use Rattle.rules.specs.Verdict.{node_place, Whole}
@@ -125,11 +125,13 @@ module _ (E : ℕ → Type 0) (ν : ℕ → Ty) where
     quantify_sound for_all [] h = λ s. (tt, tt)
     quantify_sound for_all (v ∷ vs) h =
         let r = quantify_sound for_all vs h.1 in
-        bind Any Any (f v) _ (hf v h.0) (λ b _. elim b [ true ↦ r | false ↦ λ s. (tt, tt) ])
+        bind Any Any (f v) _ (hf v h.0) (λ b _. elim b as (λ k. Sound Any (elim k as (λ _. M Bool) [ true ↦ quantify for_all f vs | false ↦ return false ]))
+        [ true ↦ r | false ↦ λ s. (tt, tt) ])
     quantify_sound for_some [] h = λ s. (tt, tt)
     quantify_sound for_some (v ∷ vs) h =
         let r = quantify_sound for_some vs h.1 in
-        bind Any Any (f v) _ (hf v h.0) (λ b _. elim b [ true ↦ λ s. (tt, tt) | false ↦ r ])
+        bind Any Any (f v) _ (hf v h.0) (λ b _. elim b as (λ k. Sound Any (elim k as (λ _. M Bool) [ true ↦ return true | false ↦ quantify for_some f vs ]))
+        [ true ↦ λ s. (tt, tt) | false ↦ r ])
 
     select_sound : (vs : List Value) → AllHave vs t → Sound (λ ws. AllHave ws t) (select f vs)
     unfolding select
@@ -137,7 +139,8 @@ module _ (E : ℕ → Type 0) (ν : ℕ → Ty) where
     select_sound (v ∷ vs) h =
         bind Any (λ ws. AllHave ws t) (f v) _ (hf v h.0)
         (λ b _. bind (λ ws. AllHave ws t) (λ ws. AllHave ws t) (select f vs) _ (select_sound vs h.1)
-        (λ ws k. elim b [ true ↦ λ s. ((h.0, k), tt) | false ↦ λ s. (k, tt) ]))
+        (λ ws g. elim b as (λ k. Sound (λ us. AllHave us t) (elim k as (λ _. M (List Value)) [ true ↦ return (v ∷ ws) | false ↦ return ws ]))
+        [ true ↦ λ s. ((h.0, g), tt) | false ↦ λ s. (g, tt) ]))
 
   module _ (ι : ℕ → Ty) (budget : ℕ) (sizes : List ℕ) where
     -- A value has the type of an expression's node.

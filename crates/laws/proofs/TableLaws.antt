@@ -1,7 +1,7 @@
 -- Laws of Tables.antt and of `upward`: how many records a table has and where each stands in the bytes; the children of
 -- a right node are below it; height and free occurrence at a node, by those of its children; the root, where there is one.
 use Prim.Native.Nat.{ℕ, zero, suc, ◌+◌, ◌*◌, ◌≤◌, ◌<◌, max}
-use mathlib.Core.Bool.{Bool, true, false, not, ◌&&◌, ◌||◌, cond}
+use mathlib.Core.Bool.{Bool, true, false, ◌||◌, cond}
 use mathlib.Core.List.{List, [], ◌∷◌}
 use mathlib.Core.Option.{Option, none as nothing, some}
 use mathlib.Core.Path.{◌≡◌, refl, ap, ap₂, ◌∙◌}

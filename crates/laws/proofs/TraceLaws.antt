@@ -18,7 +18,7 @@ use Rattle.rules.specs.Tables.{Table, Pred, joinᵖ, notᵖ, testᵖ, quantᵖ, 
 use Rattle.rules.specs.Ends.{End, done, refused}
 use Rattle.rules.specs.Reading.{occurrences, reading}
 use Rattle.rules.specs.Cells.{weight_limit, no_value, values_in}
-use Rattle.rules.specs.Runs.{Trace, Run, M, lift, go_on, ◌>>=◌, ◌>>◌, demand, counted, visit, emit, form, ◌or_else◌, Given, gives, lacks}
+use Rattle.rules.specs.Runs.{Trace, Run, M, lift, return, go_on, ◌>>=◌, ◌>>◌, demand, counted, visit, emit, form, ◌or_else◌, Given, gives, lacks}
 use Rattle.rules.specs.Operations.{Env, ◌with◌≔◌, decides, elems, set_of, leaf_value, one_value, two_value}
 use Rattle.rules.specs.Evaluation.{fitting, quantify, select, holdsᵖ, valueᵉ, holdsᶜ, run, evaluation}
 use Rattle.rules.specs.Verdict.{node_place, Whole}
@@ -179,18 +179,30 @@ module _ {f : Value → M Bool} {vs : Value → ℕ → List Visit} (hf : (w : V
   quantify_makes for_all (w ∷ ws) =
       let r = quantify_makes for_all ws in
       bind (λ _ _. refl) {h = λ b t. cond (not b) [] (member_visits not f vs ws t)} (hf w)
-      (λ b. elim b [ true ↦ r | false ↦ return_makes ])
+      (λ b. elim b as (λ k. MakesVisits silent (elim k as (λ _. M Bool) [ true ↦ quantify for_all f ws | false ↦ return false ])
+      (λ t. cond (not k) [] (member_visits not f vs ws t))) [
+        | true ↦ r
+        | false ↦ return_makes
+      ])
   quantify_makes for_some [] = return_makes
   quantify_makes for_some (w ∷ ws) =
       let r = quantify_makes for_some ws in
       bind (λ _ _. refl) {h = λ b t. cond b [] (member_visits (stops_at for_some) f vs ws t)} (hf w)
-      (λ b. elim b [ true ↦ return_makes | false ↦ r ])
+      (λ b. elim b as (λ k. MakesVisits silent (elim k as (λ _. M Bool) [ true ↦ return true | false ↦ quantify for_some f ws ])
+      (λ t. cond k [] (member_visits (stops_at for_some) f vs ws t))) [
+        | true ↦ return_makes
+        | false ↦ r
+      ])
 
   select_makes : (ws : List Value) → MakesVisits silent (select f ws) (member_visits (λ _. false) f vs ws)
   unfolding select member_visits
   select_makes [] = return_makes
   select_makes (w ∷ ws) =
-      bind (λ _ _. refl) (hf w) λ b. bind_last (λ _ _. refl) (select_makes ws) λ us. elim b [ true ↦ return_makes | false ↦ return_makes ]
+      bind (λ _ _. refl) (hf w) λ b. bind_last (λ _ _. refl) (select_makes ws) λ us.
+      elim b as (λ k. MakesVisits silent (elim k as (λ _. M (List Value)) [ true ↦ return (w ∷ us) | false ↦ return us ]) (λ _. [])) [
+        | true ↦ return_makes
+        | false ↦ return_makes
+      ]
 
 module _ (budget : ℕ) (sizes : List ℕ) where
   mutual
@@ -338,7 +350,7 @@ module _ (bs buffer : List ℕ) (budget : ℕ) where
   pub completed_have : (P : ℕ × Value → Type 0) → All P (evaluation bs buffer budget).formed → All (Completes P) (evaluation_visits bs buffer budget)
   completed_have P h = all_completes P (evaluation_visits bs buffer budget) (subst (All P) evaluation_trace h)
 
--- Demand 3 of the visits: where `evaluation-sound` holds, each completed visit is to an expression and its value has the type there.
+-- Demand 3 of the visits: where `evaluation_sound` holds, each completed visit is to an expression and its value has the type there.
 pub visits_sound : (bs buffer : List ℕ) (budget : ℕ) (tb : Table) (θ : ℕ → Ty) (vs : List Value) →
     reading bs ≡ done tb → values_in tb buffer ≡ done vs → Whole tb θ →
     ((x : ℕ) → Free tb x → HasType (get_or vs x no_value) (θ x)) →

@@ -1,5 +1,5 @@
 -- Induction over the condition of a readable table: what every node below N hands on from its children holds of its tree,
--- `root-has`. By the depth of the tree: a right node's children have lower numbers.
+-- `root_has`. By the depth of the tree: a right node's children have lower numbers.
 use Prim.Native.Nat.{ℕ, zero, suc, ◌<◌}
 use mathlib.Core.Option.{Option, none as nothing, some}
 use native.Mathlib.Omega.{arith}

@@ -1,4 +1,4 @@
--- A typing and the binding rules of a table, said of the tree of its condition: `typed-root` and `scoped-root`.
+-- A typing and the binding rules of a table, said of the tree of its condition: `typed_root` and `scoped_root`.
 use Prim.Native.Nat.{ℕ, zero, suc, ◌+◌, ◌<◌}
 use mathlib.Core.List.{List, [], ◌∷◌}
 use mathlib.Core.Bool.{Bool, true, false, not, cond, ◌||◌, ◌&&◌}
@@ -214,7 +214,7 @@ module _ (limit : ℕ) where
         go (inl s) = inl s
         go (inr e) = inr (or_false (a x) (b x) e).1
 
-    -- The body of a binder of a: `not (leb 1 ..)` is what `bindsHere` leaves of it.
+    -- The body of a binder of a: `not (leb 1 ..)` is what `binds_here` leaves of it.
     in_body : (a : ℕ) (occ : ℕ → Bool) → InScope σ (λ x. not (leb 1 (occurrences x (a ∷ []))) && occ x) → InScope (σ adding a) occ
     unfolding occurrences
     in_body a occ h x l = go (eqb x a) (eqb→eq x a) (h x l)
@@ -254,7 +254,7 @@ module _ (tb : Table) where
   abbrev binds_by : Option Kind → Node → ℕ → Bool
   binds_by k d x = leb 1 (occurrences x (pick is_binder (fields_if k) (field_words d)))
 
-  -- `occursStep` at a record of a kind.
+  -- `occurs_step` at a record of a kind.
   abbrev occurs_by : Option Kind → Node → (ℕ → ℕ → Bool) → ℕ → Bool
   occurs_by k d occ x = occurs_in_any x (binds_by k d x) (occ x) (fields_if k) (field_words d)
 
