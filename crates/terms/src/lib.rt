@@ -1,5 +1,7 @@
 // Words that hold the term of a variable: its form, and two numbers of 12 bits. The forms are those below; an atom has its
 // code on the left, POW its part, a product both its parts, a link the smaller variable on the right.
+#![tactic(auto)]
+
 ghost use Rattle.std.specs.Prelude.{◌≡◌, ◌+◌, ◌*◌, ◌/◌, ◌%◌, ◌<◌, ◌≤◌, length};
 ghost use Rattle.unification.specs.Problem.{atom_from};
 ghost use Rattle.unification.specs.Problem as problem;

@@ -59,7 +59,7 @@ pub types_at_law : (tb : Table) (k : ℕ) (σ θ : ℕ → Ty) → ((x : ℕ) �
 types_at_law tb k σ θ names nodes = each_place tb (λ p. σ (place_var tb p) ≡ θ p) k
     (λ x h. ap σ (var_name tb x h) ∙ names x h) (λ n h. ap σ (var_node tb n) ∙ nodes n h)
 
--- `isPlace` decides which of the table's places have a type.
+-- `is_place` decides which of the table's places have a type.
 module _ (tb : Table) where
   pub is_place_place : (p : ℕ) → p < place_count tb → T (is_place tb p) → Place tb p
   unfolding is_place

@@ -27,7 +27,7 @@ use Rattle.typing.proofs.Places.{place_below, var_below, is_place_place, place_i
 use Rattle.typing.proofs.Verdicts.{right_nodes, SolvesBelow, FixedPlaces, none_typed, typing_none}
 use Rattle.typing.proofs.Verdicts.{clash_verdict, several_verdict, heavy_verdict, accepts_verdict}
 
--- A property of `requireAll` and what follows: it holds of the rest where each number passes, and of the refusal at the
+-- A property of `require_all` and what follows: it holds of the rest where each number passes, and of the refusal at the
 -- least that fails.
 pub require_all_cases : {A : Type 0} (P : End A → Type 0) (r : ℕ) (ok : ℕ → Bool) (n : ℕ) (rest : End A) →
     (((j : ℕ) → j < n → ok j ≡ true) → P rest) →

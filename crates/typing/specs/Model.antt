@@ -1,4 +1,4 @@
--- Check's answer as a function: refusals 1 to 13 in order, or the sheet. `verdict-right` in proofs/VerdictRight.antt says
+-- Check's answer as a function: refusals 1 to 13 in order, or the sheet. `verdict_right` in proofs/VerdictRight.antt says
 -- that it is the answer that document 01 describes.
 use Rattle.std.specs.Prelude.{ℕ, suc, ◌-◌, Bool, true, false, not, ◌||◌, List, eqb, leb, ltb, get_or, length}
 use Rattle.std.proofs.Math.Option.{Option, none as nothing, some}

@@ -1,5 +1,5 @@
 -- The typing rule of each kind as a part of a problem of unification: shapes for the node and for a few variables of its
--- own, and equations. `plan-right` in proofs/PlanLaws.antt says that it has the same meaning as the rule.
+-- own, and equations. `plan_right` in proofs/PlanLaws.antt says that it has the same meaning as the rule.
 use Rattle.std.specs.Prelude.{ℕ, suc, List, [], ◌∷◌, ◌≡◌}
 use Rattle.rules.specs.Types.{whole, Atom, number, bool, given, Ty, atom, POW, ◌⊗◌}
 use Rattle.rules.specs.Kinds.{Test, equal, member, subset, at_most}

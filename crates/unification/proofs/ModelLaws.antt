@@ -1,4 +1,4 @@
--- What the answers of `modelSolve` mean, and the types that classes determine. Each loop by induction on its fuel: `unify` with `step-good`, `settle`
+-- What the answers of `model_solve` mean, and the types that classes determine. Each loop by induction on its fuel: `unify` with `step_good`, `settle`
 -- with one turn of the sweeps; `Whole` puts them together; a type by induction on its depth.
 use mathlib.Core.Path.{◌≡◌, refl, sym, ap, ap₂, ◌∙◌}
 use mathlib.Core.Logic.Iff

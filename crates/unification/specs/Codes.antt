@@ -1,4 +1,4 @@
--- The codes of types without parts, as `atomFrom` reads them.
+-- The codes of types without parts, as `atom_from` reads them.
 use Rattle.std.specs.Prelude.{ℕ, ◌<◌, ◌≤◌, ◌≡◌, ◌⊎◌}
 
 -- One byte of a row each: two of them are equal just where the types are.

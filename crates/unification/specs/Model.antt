@@ -1,5 +1,5 @@
 -- Solving a problem as a function: the classes as a list, a loop over the equations left, and sweeps over the marks.
--- `modelSolve-right` in proofs/ModelLaws.antt says what its answers mean.
+-- `model_solve_right` in proofs/ModelLaws.antt says what its answers mean.
 use Rattle.std.specs.Prelude.{ℕ, zero, suc, ◌+◌, ◌*◌, Bool, true, false, cond, List, [], ◌∷◌, ◌++◌, eqb, ltb, length, replicate}
 use Rattle.std.proofs.Math.Option.{Option, none as nothing, some}
 use Rattle.rules.specs.Types.{Atom, Ty, atom, POW, ◌⊗◌, INTEGER, atom_code}
