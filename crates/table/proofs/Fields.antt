@@ -143,7 +143,8 @@ and_three true true false = refl
 and_three true true true = refl
 
 fields_known : (tb : Table) (n : ℕ) (o : Option Kind) (x y z : ℕ) → (category_code o ≡ 0 → ⊥) →
-    (field_good tb n (get_or (fields_if o) 0 unused) x && field_good tb n (get_or (fields_if o) 1 unused) y && field_good tb n (get_or (fields_if o) 2 unused) z)
+    (field_good tb n (get_or (fields_if o) 0 unused) x && field_good tb n (get_or (fields_if o) 1 unused) y &&
+    field_good tb n (get_or (fields_if o) 2 unused) z)
     ≡ (known o && fields_good tb n (fields_if o) (x ∷ y ∷ z ∷ []))
 fields_known tb n nothing x y z h = absurd (h refl)
 fields_known tb n (some k) x y z h = and_three (good 0 x) (good 1 y) (good 2 z)

@@ -1,13 +1,12 @@
 -- Loops that look for the least number that fails a test: they end at it, or at the bound where all pass.
 use Prim.Native.Nat.{ℕ, ◌+◌, ◌≤◌, ◌<◌, ◌^◌}
-use mathlib.Core.Bool.{Bool, true, false, not}
+use mathlib.Core.Bool.{Bool, true, false}
 use mathlib.Core.Path.{◌≡◌, sym, ap, ◌∙◌}
 use native.Mathlib.Decide.{ℕ_discrete}
 use native.Mathlib.Nat.{le_of_eq, le_antisymm, lt_of_lt_of_le, lt_of_le_of_lt}
 use native.Mathlib.Numerals.{add-one-le}
 use native.Mathlib.Omega.{arith}
 use lib.Dec.{T, ltb, lit<}
-use borrow.Author.Tests.{not-true, not-false}
 use mir.Syntax.{Width}
 use mir.Val.{Fits, bits}
 use Rattle.rules.specs.Ends.{least_failing}
@@ -40,11 +39,11 @@ module _ (ok : ℕ → Bool) (n : ℕ) where
 
 -- What a test says, from the answer that the code branches on.
 module _ {b v : Bool} (e : b ≡ v) where
-  pub fails : not b ≡ true → v ≡ false
-  fails h = sym e ∙ not-true b h
+  pub fails : b ≡ false → v ≡ false
+  fails h = sym e ∙ h
 
-  pub passes : not b ≡ false → v ≡ true
-  passes h = sym e ∙ not-false b h
+  pub passes : b ≡ true → v ≡ true
+  passes h = sym e ∙ h
 
 -- The counter i of a loop over the m places of which a call tells that they are n.
 module _ {i m n : ℕ} where

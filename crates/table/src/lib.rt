@@ -1,4 +1,6 @@
 // A table's words and records, and refusals 1 to 6 of document 01.
+#![tactic(auto)]
+
 ghost use Rattle.std.specs.Prelude.{◌≡◌, ◌&&◌, ◌+◌, ◌<◌, ◌≤◌, eqb, ltb, length, get_or};
 ghost use Rattle.rules.specs.Kinds.{kind_of, is_child};
 ghost use Rattle.rules.specs.Tables.{word_at, table_of, node_at, field_words};
