@@ -1,5 +1,5 @@
 -- The order of two values by their cells. A value is ordered by its own cell and then by what stands behind it: the parts of a pair as a row
--- of which the first difference decides, the members of a set as one of which the last decides (`own-apart`, `own_same`). Values whose
+-- of which the first difference decides, the members of a set as one of which the last decides (`own_apart`, `own_same`). Values whose
 -- cells agree are the same.
 use Rattle.arena.proofs.Base.{ℕ, ◌+◌, ◌-◌, ◌/◌, ◌%◌, ◌≤◌, ◌<◌, compare, Ordering, Ordering·eq, Bool, true, false, cond, List, [], ◌∷◌, ◌++◌, ◌≡◌, refl, sym, ap, ◌∙◌, subst, arith, ℕ_discrete, dec_lt, T, eqb, ℤ, pos, get_or, lt-ltb, le-ltb}
 use Rattle.rules.specs.Values.{Value, scalar, pair, set, Values, none, ◌▸◌, scalar_tag, count, weight, compareℤ, ◌then◌, lex, key, keys, order, same}

@@ -103,7 +103,8 @@ mutual
   pub code_eq : (v w : Value) (x y : List ℕ) → CellsFit v → CellsFit w → code v ++ x ≡ code w ++ y → (v ≡ w) × (x ≡ y)
   code_eq (scalar s) (scalar r) x y h k e = (ap scalar (scalar_cells s r h k (cc)), cc)
   code_eq (scalar s) (pair c d) x y h k e = absurd (let q : scalar_tag s * cell_size + scalar_low s ≡ 4 * cell_size = cc in omega (arith, scalar_small s h))
-  code_eq (scalar s) (set r) x y h k e = absurd (let q : scalar_tag s * cell_size + scalar_low s ≡ 5 * cell_size + count r = cc in omega (arith, scalar_small s h))
+  code_eq (scalar s) (set r) x y h k e = absurd
+      (let q : scalar_tag s * cell_size + scalar_low s ≡ 5 * cell_size + count r = cc in omega (arith, scalar_small s h))
   code_eq (pair a b) (scalar r) x y h k e = absurd (let q : 4 * cell_size ≡ scalar_tag r * cell_size + scalar_low r = cc in omega (arith, scalar_small r k))
   code_eq (pair a b) (pair c d) x y h k e =
       let q : code a ++ (code b ++ x) ≡ code c ++ (code d ++ y) = cc (append_assoc (code a) (code b) x, append_assoc (code c) (code d) y) in
@@ -111,7 +112,8 @@ mutual
       let g = code_eq b d x y h.1 k.1 f.1 in
       (cc (f.0, g.0), g.1)
   code_eq (pair a b) (set r) x y h k e = absurd (let q : 4 * cell_size ≡ 5 * cell_size + count r = cc in omega arith)
-  code_eq (set s) (scalar r) x y h k e = absurd (let q : 5 * cell_size + count s ≡ scalar_tag r * cell_size + scalar_low r = cc in omega (arith, scalar_small r k))
+  code_eq (set s) (scalar r) x y h k e = absurd
+      (let q : 5 * cell_size + count s ≡ scalar_tag r * cell_size + scalar_low r = cc in omega (arith, scalar_small r k))
   code_eq (set s) (pair c d) x y h k e = absurd (let q : 5 * cell_size + count s ≡ 4 * cell_size = cc in omega arith)
   code_eq (set s) (set r) x y h k e =
       let q : 5 * cell_size + count s ≡ 5 * cell_size + count r = cc in

@@ -1,5 +1,5 @@
 -- Members of one weight. Values of one type, one of them flat, weigh the same; in a row of values that each weigh k, value i stands
--- k · i cells behind the first (`value-at`); a value of one cell compares with another by its cell.
+-- k · i cells behind the first (`value_at_law`); a value of one cell compares with another by its cell.
 use Rattle.arena.proofs.Base.{ℕ, zero, suc, ◌+◌, ◌*◌, ◌-◌, ◌≤◌, ◌<◌, compare, List, ◌≡◌, refl, sym, ap, ◌∙◌, subst, arith, T, get_or}
 use Rattle.rules.specs.Types.{Ty, atom, POW, ◌⊗◌}
 use Rattle.rules.specs.Values.{Value, scalar, pair, set, Values, none, ◌▸◌, count, weight, weights, order}

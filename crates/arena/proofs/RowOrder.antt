@@ -3,7 +3,7 @@
 use Rattle.arena.proofs.Base.{ℕ, ◌+◌, ◌*◌, ◌-◌, ◌≤◌, ◌<◌, compare, Ordering, Ordering·eq, Bool, true, false, List, ◌≡◌, refl, sym, ap, ◌∙◌, subst, arith, add-zero, ltb, length, get_or, lt-ltb, le-ltb}
 use Rattle.rules.specs.Values.{Value, scalar, pair, set, Values, none, ◌▸◌, count, weight, weights, ◌then◌, order}
 use Rattle.laws.proofs.OrderLaws.{then_end, then_first, then_assoc}
-use Rattle.arena.specs.Code.{cell_size, codes, ValueAt, CellsFit, order_code, SomeAt, EndsAt, parts_of, then_next, row_order, ThenNext, RowAt, SomeRow, SomeLeft, RowsLeft, RowsBegun, ValuesCompared, RowsCompared}
+use Rattle.arena.specs.Code.{cell_size, codes, ValueAt, CellsFit, order_code, SomeAt, EndsAt, parts_of, then_next, row_order, ThenNext, RowAt, SomeRow, SomeLeft, RowsBegun, ValuesCompared, RowsCompared}
 use Rattle.arena.specs.declared.Rows.{Rows}
 use Rattle.arena.proofs.CodeLaws.{scalar_small}
 use Rattle.arena.proofs.Standing.{own_cell, inner, ◌before◌, code_inner, weight_inner, fit_inner, parts_stand, stands_own, stands_tail, first_stands, rest_stand}

@@ -39,7 +39,8 @@ stands_append s at xs ys h k = record { inside = omega (arith, k.inside, length-
         let e : i ≡ length xs + (i - length xs) = omega arith in
         let a : at + i ≡ at + length xs + (i - length xs) = omega arith in
         let l : i - length xs < length ys = omega (arith, length-append xs ys) in
-        ap (λ (j : ℕ). get_or s j 0) a ∙ k.cells (i - length xs) l ∙ sym (get_or-append-add xs ys (i - length xs) 0) ∙ ap (λ (j : ℕ). get_or (xs ++ ys) j 0) (sym e)
+        ap (λ (j : ℕ). get_or s j 0) a ∙ k.cells (i - length xs) l ∙ sym (get_or-append-add xs ys (i - length xs) 0) ∙
+        ap (λ (j : ℕ). get_or (xs ++ ys) j 0) (sym e)
 
 -- The members of a set or the parts of a pair, before other values.
 abbrev pub ◌before◌ : Values → Values → Values
@@ -213,7 +214,8 @@ first_inside s a end i p e l =
 pub end_above : (s : List ℕ) (a end : ℕ) → SomeAt s a → EndsAt s a end → a ≤ end
 end_above s a end p e = omega (arith, e p.value p.stands p.fits)
 
-pub agree_next : (s : List ℕ) (a b i : ℕ) → Agree s a b i → get_or s (b + i) 0 ≤ get_or s (a + i) 0 → get_or s (a + i) 0 ≤ get_or s (b + i) 0 → Agree s a b (i + 1)
+pub agree_next : (s : List ℕ) (a b i : ℕ) → Agree s a b i → get_or s (b + i) 0 ≤ get_or s (a + i) 0 → get_or s (a + i) 0 ≤ get_or s (b + i) 0 →
+    Agree s a b (i + 1)
 agree_next s a b i g p q j l = go (ℕ_discrete j i)
   where
     go : Dec (j ≡ i) → get_or s (a + j) 0 ≡ get_or s (b + j) 0

@@ -1,4 +1,6 @@
 // Values as runs of cells in an arena: where a value ends, the order of two values, copying.
+#![tactic(auto)]
+
 ghost use Rattle.std.specs.Prelude.{◌≡◌, ◌⊎◌, ℕ, ◌+◌, ◌*◌, ◌-◌, ◌<◌, ◌≤◌, ◌/◌, ◌%◌, length, get_or, set};
 ghost use Prim.Native.Nat.{compare as compared};
 ghost use Rattle.arena.specs.Code.{SomeAt, EndsAt, Compared, SameAt, Copied, parts_of, order_code, ThenNext, SomeRow, ValuesCompared, RowsBegun, RowsCompared};

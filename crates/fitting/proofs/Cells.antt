@@ -1,9 +1,9 @@
 -- Values that stand in the arena: what their cells tell of the types that they share.
 use Prim.Native.Nat.{ℕ, ◌+◌, ◌*◌, ◌-◌, ◌/◌, ◌%◌, ◌≤◌, ◌<◌}
-use mathlib.Core.Bool.{Bool, true, false, not, ◌&&◌}
+use mathlib.Core.Bool.{Bool, true, false, ◌&&◌}
 use mathlib.Core.List.{List}
 use mathlib.Core.Logic.{◌≢◌, inl, inr}
-use borrow.Author.Tests.{eq-eqb, ne_eqb, not-true, not-false}
+use borrow.Author.Tests.{eq-eqb, ne_eqb}
 use mathlib.Core.Path.{◌≡◌, refl, sym, ◌∙◌, subst}
 use native.Mathlib.Omega.{arith}
 use native.Mathlib.Decide.{ℕ_discrete}
@@ -169,16 +169,16 @@ module _ {s : List ℕ} {at n : ℕ} {q : TypeSet} {vs : Values} (p : Rest s at 
     splits : {xs ys : Values} {x : Value} → xs ≡ x ▸ ys → RunAt s at n (x ▸ ys) → meets (shared_types xs) q ≡ (c && meets (shared_types ys) q)
     splits {ys = ys} {x = x} e k = rw e (rw (g x (run_head k)) (meets_first (types_of x) (shared_types ys) q k.typed))
 
-    pub rest_no : not c ≡ true → false ≡ meets (shared_types vs) q
-    rest_no f = let (x, ys, e, k) = as_run p.run l in sym (p.same ∙ splits e k ∙ rw (not-true c f))
+    pub rest_no : c ≡ false → false ≡ meets (shared_types vs) q
+    rest_no f = let (x, ys, e, k) = as_run p.run l in sym (p.same ∙ splits e k ∙ rw f)
 
-    pub rest_yes : {end : ℕ} → not c ≡ false → EndsAt s at end → Rest s end (n - 1) q vs
+    pub rest_yes : {end : ℕ} → c ≡ true → EndsAt s at end → Rest s end (n - 1) q vs
     rest_yes f d =
         let (x, ys, e, k) = as_run p.run l in
         record {
           values = ys;
           run = rw (end_is d (run_head k)) (run_tail k);
-          same = p.same ∙ splits e k ∙ rw (not-false c f);
+          same = p.same ∙ splits e k ∙ rw f;
           pairs = λ a. (subst AllPairs e (p.pairs a)).1;
         }
 
@@ -232,10 +232,18 @@ module _ {s : List ℕ} {a b : ℕ} where
 
 -- A scalar and another value, by their cells.
 number_tag : (w : Value) → eqb 1 (tag w) ≡ inhabited (atomˢ (number whole) ⊓ types_of w)
-number_tag w = elim w [ scalar x ↦ elim x [ num n i ↦ elim n [ whole ↦ refl ] | truth b ↦ refl | element g k ↦ refl ] | pair x y ↦ refl | set vs ↦ refl ]
+number_tag (scalar (num whole i)) = refl
+number_tag (scalar (truth b)) = refl
+number_tag (scalar (element g k)) = refl
+number_tag (pair x y) = refl
+number_tag (set vs) = refl
 
 truth_tag : (w : Value) → eqb 2 (tag w) ≡ inhabited (atomˢ bool ⊓ types_of w)
-truth_tag w = elim w [ scalar x ↦ elim x [ num n i ↦ elim n [ whole ↦ refl ] | truth b ↦ refl | element g k ↦ refl ] | pair x y ↦ refl | set vs ↦ refl ]
+truth_tag (scalar (num whole i)) = refl
+truth_tag (scalar (truth b)) = refl
+truth_tag (scalar (element g k)) = refl
+truth_tag (pair x y) = refl
+truth_tag (set vs) = refl
 
 far : (s : List ℕ) (a b : ℕ) → get_or s a 0 / cell_size ≢ get_or s b 0 / cell_size → eqb (get_or s a 0 / 256) (get_or s b 0 / 256) ≡ false
 far s a b n = ne_eqb (get_or s a 0 / 256) (get_or s b 0 / 256) (λ e. n (omega arith))

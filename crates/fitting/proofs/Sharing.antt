@@ -114,7 +114,11 @@ pub right_typed : (p q : TypeSet) → T (inhabited (p ⊓ q)) → T (inhabited q
 right_typed p q h = let r = inhabited→some (p ⊓ q) h in some→inhabited q r.0 (⊓_split p q r.0 r.1).1
 
 pub ⊓_every : (p : TypeSet) → p ⊓ every ≡ p
-⊓_every p = elim p [ every ↦ refl | no_type ↦ refl | atomˢ a ↦ refl | powˢ q ↦ refl | q ×ˢ r ↦ refl ]
+⊓_every every = refl
+⊓_every no_type = refl
+⊓_every (atomˢ a) = refl
+⊓_every (powˢ q) = refl
+⊓_every (q ×ˢ r) = refl
 
 pub with_every : (p : TypeSet) → T (inhabited p) → T (inhabited (p ⊓ every))
 with_every p h = rw (⊓_every p) h

@@ -7,7 +7,7 @@ use mathlib.Core.Path.{◌≡◌, refl, sym, ap, ◌∙◌, subst}
 use native.Mathlib.Omega.{arith}
 use lib.Dec.{T, eqb, eqb→eq}
 use lib.ListN.{get_or}
-use borrow.Author.Tests.{eq-eqb, ne_eqb, eqb_true}
+use borrow.Author.Tests.{eq-eqb, ne_eqb, eqb-true}
 use Rattle.rules.specs.Types.{whole, Ty, ◌⊗◌}
 use Rattle.rules.specs.Values.{num, truth, element, Value, scalar, pair, set, Values, none, ◌▸◌, scalar_tag, tag}
 use Rattle.rules.specs.Rules.{t̂, û, P̂, ◌×̂◌, numᵖ}
@@ -29,14 +29,21 @@ inner (set vs) = shared_types vs
 
 -- What the patterns leave for t and u of the types of a value.
 set_asked : (v : Value) → asked (P̂ t̂) (types_of v) ≡ (inner v, every)
-set_asked v = elim v [ scalar x ↦ refl | pair x y ↦ refl | set vs ↦ refl ]
+set_asked (scalar x) = refl
+set_asked (pair x y) = refl
+set_asked (set vs) = refl
 
 relation_asked : (v : Value) → asked (P̂ (t̂ ×̂ û)) (types_of v) ≡ asked (t̂ ×̂ û) (inner v)
-relation_asked v = elim v [ scalar x ↦ refl | pair x y ↦ refl | set vs ↦ refl ]
+relation_asked (scalar x) = refl
+relation_asked (pair x y) = refl
+relation_asked (set vs) = refl
 
 number_asked : (v : Value) → asked (numᵖ whole) (types_of v) ≡ cond (eqb (tag v) 1) anything nothing_fits
-number_asked v =
-    elim v [ scalar x ↦ elim x [ num n i ↦ elim n [ whole ↦ refl ] | truth b ↦ refl | element g k ↦ refl ] | pair x y ↦ refl | set vs ↦ refl ]
+number_asked (scalar (num whole i)) = refl
+number_asked (scalar (truth b)) = refl
+number_asked (scalar (element g k)) = refl
+number_asked (pair x y) = refl
+number_asked (set vs) = refl
 
 -- The types of pairs in p whose left part has a type in q.
 pairs_left : (p q : TypeSet) →
@@ -107,7 +114,7 @@ module _ {s : List ℕ} {a : ℕ} {r : Bool} (f : FitOne (P̂ t̂ ∷ []) s a r)
   set_inner {v} h = sym (f v h ∙ fits_set v)
 
   pub set_here : SomeTyped s a → r ≡ true → SetHere s a
-  set_here (v, h) e = record { value = (v, h); is_set = eqb_true (get_or s a 0 / cell_size) 5 (set_cell h ∙ set_inner h ∙ e) }
+  set_here (v, h) e = record { value = (v, h); is_set = eqb-true (get_or s a 0 / cell_size) 5 (set_cell h ∙ set_inner h ∙ e) }
 
   pub set_not : {v : Value} → TypedAt s a v → r ≡ false → (p : TypeSet) → meets p (inner v) ≡ false
   set_not {v} h e p = no_meet p (inner v) (λ x. subst T (set_inner h ∙ e) (some→inhabited (inner v) x.0 x.2))
@@ -130,7 +137,8 @@ module _ {s : List ℕ} {a b : ℕ} where
   numbers_fit m v w h k = rw (number_asked v, number_asked w, eq-eqb (tag v) 1 (sym (tag_is h) ∙ m), tag_is k) (last (eqb (tag w) 1))
     where
       last : (b : Bool) → b ≡ (inhabited ((cond b anything nothing_fits).0 ⊓ every) && inhabited ((cond b anything nothing_fits).1 ⊓ every))
-      last b = elim b [ true ↦ refl | false ↦ refl ]
+      last true = refl
+      last false = refl
 
 -- A value with a product type is a pair, and the other way round.
 first_pair : (x : Value) (r : TypeSet) → T (inhabited (types_of x ⊓ r)) → eqb (tag x) 4 ≡ meets (types_of x ⊓ r) any_pair

@@ -1,13 +1,13 @@
 -- Values of the arena against types in prefix codes.
 use Prim.Native.Nat.{ℕ, ◌+◌, ◌-◌, ◌/◌, ◌%◌, ◌≤◌, ◌<◌}
-use mathlib.Core.Bool.{Bool, true, false, not, false≢true}
+use mathlib.Core.Bool.{Bool, true, false, false≢true}
 use mathlib.Core.List.{List, [], ◌∷◌, ◌++◌, append_assoc, append-nil}
 use mathlib.Core.Logic.{◌≢◌}
 use mathlib.Core.Path.{◌≡◌, refl, sym, ap, ◌∙◌, subst}
 use native.Mathlib.Omega.{arith}
 use lib.Dec.{eqb}
 use lib.ListN.{length, get_or, replicate, length-append}
-use borrow.Author.Tests.{eq-eqb, ne_eqb, eqb_true, not-true, not-false}
+use borrow.Author.Tests.{eq-eqb, ne_eqb, eqb-true}
 use Rattle.rules.specs.Types.{whole, Atom, number, bool, given, Ty, atom, POW, ◌⊗◌, atom_code, weightᵀ, prefix, row}
 use Rattle.rules.specs.Values.{Scalar, num, truth, element, scalar, pair, set, Values, none, ◌▸◌, scalar_tag, tag, count}
 use Rattle.rules.specs.Fits.{atom_of, types_of, shared_types, HasType, HaveType}
@@ -113,7 +113,7 @@ head_atom a (t ⊗ u) e = absurd ((atom_code_law a).1 (sym e))
 
 code_decides : (a : Atom) (t : Ty) → Decides (eqb (atom_code a) (head t)) (t ≡ atom a)
 code_decides a t =
-    record { sound = λ e. head_atom a t (sym (eqb_true (atom_code a) (head t) e)); complete = λ e. eq-eqb (atom_code a) (head t) (sym (ap head e)) }
+    record { sound = λ e. head_atom a t (sym (eqb-true (atom_code a) (head t) e)); complete = λ e. eq-eqb (atom_code a) (head t) (sym (ap head e)) }
 
 scalar_decides : (x : Scalar) (t : Ty) (c : ℕ) → ScalarFits x → c / cell_size ≡ scalar_tag x → c % cell_size ≡ scalar_low x →
     Decides (atom_is c (head t)) (t ≡ atom (atom_of x))
@@ -225,11 +225,11 @@ module _ {s : List ℕ} {at n : ℕ} {t : Ty} {vs : Values} where
   left_first (x ▸ ys, p) l = record { value = x; stands = first_stands s at x ys p.stands; fits = p.fits.0 }
 
   module _ {row : List ℕ} {from : ℕ} {c : Bool} (k : TypeAt row from t) (l : 0 < n) (g : OfType s at row from c) where
-    pub left_no : SomeLeft s at n t vs → not c ≡ true → Decides false (HaveType vs t)
+    pub left_no : SomeLeft s at n t vs → c ≡ false → Decides false (HaveType vs t)
     left_no (none, p) f = absurd (omega (arith, p.counted))
-    left_no (x ▸ ys, p) f = p.tells false (both_no (g x t (first_stands s at x ys p.stands) p.fits.0 k) (not-true c f))
+    left_no (x ▸ ys, p) f = p.tells false (both_no (g x t (first_stands s at x ys p.stands) p.fits.0 k) f)
 
-    pub left_yes : {end : ℕ} → SomeLeft s at n t vs → not c ≡ false → EndsAt s at end → SomeLeft s end (n - 1) t vs
+    pub left_yes : {end : ℕ} → SomeLeft s at n t vs → c ≡ true → EndsAt s at end → SomeLeft s end (n - 1) t vs
     left_yes (none, p) f e = absurd (omega (arith, p.counted))
     left_yes (x ▸ ys, p) f e =
         let a = first_stands s at x ys p.stands in (
@@ -238,7 +238,7 @@ module _ {s : List ℕ} {at n : ℕ} {t : Ty} {vs : Values} where
             stands = rw (e x a p.fits.0) (rest_stand s at x ys p.stands);
             fits = p.fits.1;
             counted = omega (arith, p.counted);
-            tells = λ r d. p.tells r (both_yes (g x t a p.fits.0 k) (not-false c f) d);
+            tells = λ r d. p.tells r (both_yes (g x t a p.fits.0 k) f d);
           },
         )
 

@@ -2,7 +2,7 @@
 -- that have one.
 use Rattle.std.specs.Prelude.{ℕ, ◌+◌, ◌/◌, ◌≤◌, ◌<◌, Bool, cond, List, ◌≢◌, ◌⊎◌, ◌≡◌, T, eqb, get_or}
 use Rattle.rules.specs.Values.{Value, scalar, pair, set, Values, none, ◌▸◌, count}
-use Rattle.rules.specs.Fits.{TypeSet, ◌⊓◌, types_of, shared_types, inhabited, typed}
+use Rattle.rules.specs.Fits.{TypeSet, ◌⊓◌, types_of, shared_types, inhabited}
 use Rattle.arena.specs.Code.{ValueAt, ValuesAt, CellsFit, AllFit}
 
 -- Two sets of types have one in common.

@@ -1,4 +1,6 @@
 // Refusal 15 as tests on values of the arena, and values against types.
+#![tactic(auto)]
+
 ghost use Rattle.std.specs.Prelude.{[], ◌∷◌, ◌≡◌, ◌+◌, ◌≤◌, ◌<◌, length};
 ghost use Rattle.rules.specs.Types.{whole};
 ghost use Rattle.rules.specs.Rules.{t̂, û, P̂, ◌×̂◌, numᵖ};
