@@ -1,6 +1,6 @@
 -- Turns after each other: the loop over the stack, and the loop over the equations, which puts one after the other on the stack.
 use Prim.Native.Nat.{ℕ, suc, ◌+◌, ◌-◌, ◌*◌, ◌<◌, ◌≤◌}
-use mathlib.Core.Bool.{Bool, true, false, not, true≢false}
+use mathlib.Core.Bool.{Bool, true, false, true≢false}
 use mathlib.Core.List.{List}
 use mathlib.Core.Logic.{◌≢◌}
 use mathlib.Core.Path.{◌≡◌, refl, sym, subst}
@@ -93,13 +93,13 @@ module _ {n : ℕ} {ts₀ : List ℕ} {P : (ℕ → Ty) → Type 0} {ts stack : 
 
 -- ---- the loop over the equations
 module _ {n : ℕ} (ts stack : List ℕ) (h : ℕ) (ts' : List ℕ) where
-  merged_false : (r : Bool) → StackMerged n ts stack h ts' r → not r ≡ true → NoneTo n ts stack h
-  merged_false true m e = absurd (true≢false (sym e))
+  merged_false : (r : Bool) → StackMerged n ts stack h ts' r → r ≡ false → NoneTo n ts stack h
+  merged_false true m e = absurd (true≢false e)
   merged_false false m e = m
 
-  merged_true : (r : Bool) → StackMerged n ts stack h ts' r → not r ≡ false → SaysAlso n ts (λ θ. HoldsTo θ stack h) ts'
+  merged_true : (r : Bool) → StackMerged n ts stack h ts' r → r ≡ true → SaysAlso n ts (λ θ. HoldsTo θ stack h) ts'
   merged_true true m e = m
-  merged_true false m e = absurd (true≢false e)
+  merged_true false m e = absurd (true≢false (sym e))
 
 -- What says the same may be said instead.
 pub says_same : {n : ℕ} {ts₀ : List ℕ} {P : (ℕ → Ty) → Type 0} {ts ts' : List ℕ} → SaysAlso n ts₀ P ts → SaysAlso n ts (λ θ. Unit {0}) ts'
@@ -169,10 +169,10 @@ module _ {n : ℕ} {ts₀ es ts stack : List ℕ} {i : ℕ} (a : NextEquation n 
         all_merged : StackMerged n ts' stack' c ts'' r
         all_merged = subst (λ k. StackMerged k ts' stack' c ts'' r) all_says.terms.len m
 
-        pub all_inside : not r ≡ true → (i < length es) × NoneTo n ts₀ es (suc i)
+        pub all_inside : r ≡ false → (i < length es) × NoneTo n ts₀ es (suc i)
         all_inside k = (a.some, stack_none all_says (merged_false ts' stack' c ts'' r all_merged k))
 
-        pub all_next : not r ≡ false → SaysAlso n ts₀ (λ θ. HoldsTo θ es (suc i)) ts''
+        pub all_next : r ≡ true → SaysAlso n ts₀ (λ θ. HoldsTo θ es (suc i)) ts''
         all_next k = stack_all all_says (merged_true ts' stack' c ts'' r all_merged k)
 
 pub all_start : {n : ℕ} {ts : List ℕ} (es : List ℕ) → Terms n ts → SaysAlso n ts (λ θ. HoldsTo θ es 0) ts

@@ -59,7 +59,8 @@ right_eqn s t = word_right s * 4096 + word_right t
 -- ---- two equations more, of which c count
 module _ (stack : List ℕ) (h s t : ℕ) (room : h + 1 < length stack) where
   push_below : (i : ℕ) → i < h → get_or (pushed stack h s t) i 0 ≡ get_or stack i 0
-  push_below i l = get_or-set_other (set stack h (left_eqn s t)) (h + 1) i (right_eqn s t) 0 (omega arith) ∙ get_or-set_other stack h i (left_eqn s t) 0 (omega arith)
+  push_below i l = get_or-set_other (set stack h (left_eqn s t)) (h + 1) i (right_eqn s t) 0 (omega arith) ∙
+      get_or-set_other stack h i (left_eqn s t) 0 (omega arith)
 
   push_first : get_or (pushed stack h s t) h 0 ≡ left_eqn s t
   push_first = get_or-set_other (set stack h (left_eqn s t)) (h + 1) h (right_eqn s t) 0 (omega arith) ∙ get_or-set_same stack h (left_eqn s t) 0 (omega arith)

@@ -1,4 +1,6 @@
 // Classes of variables: links to smaller variables lead to a class's least variable, which has the class's shape. Equations merge classes.
+#![tactic(auto)]
+
 ghost use Rattle.std.specs.Prelude.{◌≡◌, ◌+◌, ◌<◌, ◌≤◌, min, max, length};
 ghost use Rattle.terms.specs.Words.{word_form};
 ghost use Rattle.terms.specs.Terms.{Terms};
@@ -10,7 +12,7 @@ ghost use Rattle.classes.specs.Turning.{Turnable, TurnedTo, StackMergeable, Stac
 use terms::{ATOM, LINK, OPEN, POWER};
 
 // What merging all equations came to. `Clash` and `ClashInside` have the first equation that clashes.
-#[derive(Drop)]
+#[derive(Clone, Copy)]
 pub enum Merged {
     All,
     Clash(usize),

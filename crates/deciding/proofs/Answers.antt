@@ -88,7 +88,8 @@ module _ {n : ℕ} {ts marks : List ℕ} (t : FlatTerms n ts) (m : MarkedTo n ts
     agree = λ v h c θ κ a b. ground_agree (term_graph ts) (idem t.terms t.flat) θ κ (to_sat t.terms θ a) (to_sat t.terms κ b) K v (ground v h c);
     weighs = λ v h c. (says v h).weighs c;
     parts = λ v h c.
-        closed_by n ts marks (status_after (term_graph ts) K) (term_of (get_or ts (class_in ts v) 0)) (parts_in t.terms (class_in ts v) (class_in_law t.terms v h))
+        closed_by n ts marks (status_after (term_graph ts) K) (term_of (get_or ts (class_in ts v) 0))
+        (parts_in t.terms (class_in ts v) (class_in_law t.terms v h))
         (ground_kept (term_graph ts) (status_after (term_graph ts) K) K (λ w p. p) v (ground v h c)) closed;
     differ = λ v h p. open_differ (term_graph ts) (λ x. INTEGER) (λ x. BOOL) (λ x. atoms_differ) K v (resolved v) (opened v h p);
   }

@@ -112,7 +112,8 @@ module _ {n : ℕ} {ts₀ ts : List ℕ} {v : ℕ} (f : FlatTo n ts₀ ts v) (h 
         go (yes e) =
             let m : MeetsTerm θ (term_of w) (θ v) = subst (λ (y : ℕ). MeetsTerm θ (term_of y) (θ v)) at_v (s v h) in
             let a : θ v ≡ θ (word_right w) = rw term_u at m in
-            let b : MeetsTerm θ (term_of w) (θ u) = subst (λ (y : ℕ). MeetsTerm θ (term_of y) (θ u)) (at u (omega (arith, lower))) (s u (omega (arith, lower))) in
+            let b : MeetsTerm θ (term_of w) (θ u) = subst (λ (y : ℕ). MeetsTerm θ (term_of y) (θ u)) (at u (omega (arith, lower)))
+            (s u (omega (arith, lower))) in
             rw (e, term_v) (a ∙ sym (along θ b))
 
     old : (x : ℕ) → x < n → Dec (x ≡ v) → TermFrom n ts₀ (term_of (get_or ts' x 0))

@@ -8,7 +8,7 @@ use native.Mathlib.Omega.{arith}
 use native.Mathlib.Decide.{ℕ_discrete}
 use lib.Dec.{eqb}
 use lib.ListN.{get_or, length}
-use borrow.Author.Tests.{eqb_true, eqb_false}
+use borrow.Author.Tests.{eqb-true, eqb-false}
 use Rattle.unification.specs.Problem.{PartsBelow, shape_of}
 use Rattle.terms.specs.Words.{word_form, word_left, word_right}
 use Rattle.terms.specs.Terms.{Terms, class_in}
@@ -19,20 +19,20 @@ use Rattle.deciding.specs.Visit.{VisitNext}
 use Rattle.deciding.proofs.Graphs.{parts_in}
 
 -- ---- answers
-pub answered_yes : (P : Type 0) (b : Bool) → Answered P b → not b ≡ false → P
+pub answered_yes : (P : Type 0) (b : Bool) → Answered P b → b ≡ true → P
 answered_yes P true a e = a
-answered_yes P false a e = absurd (true≢false e)
+answered_yes P false a e = absurd (true≢false (sym e))
 
-pub answered_no : (P : Type 0) (b : Bool) → Answered P b → not b ≡ true → P → ⊥
-answered_no P true a e = absurd (true≢false (sym e))
+pub answered_no : (P : Type 0) (b : Bool) → Answered P b → b ≡ false → P → ⊥
+answered_no P true a e = absurd (true≢false e)
 answered_no P false a e = a
 
 pub final_answer : (m : ℕ) → m ≢ 0 → Answered (Final m) (not (eqb m 127))
 final_answer m nz = go (eqb m 127) refl
   where
     go : (b : Bool) → eqb m 127 ≡ b → Answered (Final m) (not b)
-    go true e = λ f. f.1 (eqb_true m 127 e)
-    go false e = (nz, eqb_false m 127 e)
+    go true e = λ f. f.1 (eqb-true m 127 e)
+    go false e = (nz, eqb-false m 127 e)
 
 -- ---- a class's shape
 
@@ -129,5 +129,5 @@ module _ {n : ℕ} {ts : List ℕ} {v : ℕ} (t : Terms n ts) (marks : List ℕ)
   next_answer ne = go (eqb (get_or marks v 0) 0) refl
     where
       go : (b : Bool) → eqb (get_or marks v 0) 0 ≡ b → Answered (VisitNext n ts marks v) b
-      go true e = record { below = h; class = sym (class_known t h refl (form_known t h refl ne)).0; bare = eqb_true (get_or marks v 0) 0 e }
-      go false e = λ x. eqb_false (get_or marks v 0) 0 e x.bare
+      go true e = record { below = h; class = sym (class_known t h refl (form_known t h refl ne)).0; bare = eqb-true (get_or marks v 0) 0 e }
+      go false e = λ x. eqb-false (get_or marks v 0) 0 e x.bare

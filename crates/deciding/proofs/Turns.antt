@@ -1,6 +1,6 @@
 -- One turn of the visit, as the code runs it: p is what it found of the class c on top. Then the whole of a visit, and of the loop over classes.
 use Prim.Native.Nat.{ℕ, ◌+◌, ◌-◌, ◌<◌, ◌≤◌}
-use mathlib.Core.Bool.{Bool, true, false, not, true≢false}
+use mathlib.Core.Bool.{Bool, true, false, true≢false}
 use mathlib.Core.List.{List}
 use mathlib.Core.Logic.{◌≢◌, inl, inr}
 use mathlib.Core.Path.{◌≡◌, sym}
@@ -117,10 +117,10 @@ module _ {n : ℕ} {ts marks : List ℕ} {v : ℕ} (m : MarkedTo n ts marks v) w
   all_end h = record { rest = m.rest; each = λ c hc. m.each c (omega arith) }
 
 module _ (n : ℕ) (ts marks : List ℕ) (v : ℕ) where
-  pub all_stop : (b : Bool) → MarkedOn n ts marks v b → not b ≡ true → NoTypes n ts
-  all_stop true a e = absurd (true≢false (sym e))
+  pub all_stop : (b : Bool) → MarkedOn n ts marks v b → b ≡ false → NoTypes n ts
+  all_stop true a e = absurd (true≢false e)
   all_stop false a e = a
 
-  pub all_go : (b : Bool) → MarkedOn n ts marks v b → not b ≡ false → MarkedTo n ts marks v
+  pub all_go : (b : Bool) → MarkedOn n ts marks v b → b ≡ true → MarkedTo n ts marks v
   all_go true a e = a
-  all_go false a e = absurd (true≢false e)
+  all_go false a e = absurd (true≢false (sym e))

@@ -1,4 +1,6 @@
 // Which classes hold themselves, which have an open part, and what the others weigh: marks, found from the parts up.
+#![tactic(auto)]
+
 ghost use Rattle.std.specs.Prelude.{◌≡◌, ◌+◌, ◌*◌, ◌/◌, ◌%◌, ◌<◌, ◌≤◌, min, max, length, set};
 ghost use Rattle.terms.specs.Terms.{Terms};
 ghost use Rattle.terms.specs.Decided.{class_mark, Decision};

@@ -1,6 +1,6 @@
 -- Places: their variables, which of them have a type, and the scan for the least place where something fails.
 use Prim.Native.Nat.{ℕ, ◌+◌, ◌-◌, ◌%◌, ◌≤◌, ◌<◌}
-use mathlib.Core.Bool.{Bool, true, false, not, true≢false, false≢true}
+use mathlib.Core.Bool.{Bool, true, false, true≢false, false≢true}
 use mathlib.Core.List.{List}
 use mathlib.Core.Logic.{inl, inr}
 use mathlib.Core.Option.{Option, none as nothing, some}
@@ -107,13 +107,13 @@ module _ {bs : List ℕ} {at : ℕ} {ts starts marks : List ℕ} (pl : PlacesIn 
     }
 
 -- A place without a type fails nothing.
-pub fails_blank : (tb : Table) (P : ℕ → Type 0) (p : ℕ) (b : Bool) → TypedIf tb p b → not b ≡ true → FailsIf tb P p false
-fails_blank tb P p true w e = absurd (false≢true e)
+pub fails_blank : (tb : Table) (P : ℕ → Type 0) (p : ℕ) (b : Bool) → TypedIf tb p b → b ≡ false → FailsIf tb P p false
+fails_blank tb P p true w e = absurd (true≢false e)
 fails_blank tb P p false w e = λ h. absurd (w h)
 
-pub is_place_law : (tb : Table) (p : ℕ) (b : Bool) → TypedIf tb p b → not b ≡ false → Place tb p
+pub is_place_law : (tb : Table) (p : ℕ) (b : Bool) → TypedIf tb p b → b ≡ true → Place tb p
 is_place_law tb p true w e = w
-is_place_law tb p false w e = absurd (true≢false e)
+is_place_law tb p false w e = absurd (false≢true e)
 
 fails_by : (tb : Table) (P : ℕ → Type 0) (p : ℕ) → Place tb p → (t : Bool) → (t ≡ true → P p → ⊥) → (t ≡ false → P p) → FailsIf tb P p t
 fails_by tb P p w true f g = (w, f refl)

@@ -1,6 +1,6 @@
 -- The turn of `write_rows`: a row of zeros, the codes of a class written into it, or those of its first row copied.
 use Prim.Native.Nat.{ℕ, zero, suc, ◌+◌, ◌*◌, ◌-◌, ◌≤◌, ◌<◌}
-use mathlib.Core.Bool.{Bool, true, false, not, false≢true}
+use mathlib.Core.Bool.{Bool, true, false, true≢false}
 use mathlib.Core.List.{List, [], ◌∷◌, ◌++◌, append_assoc}
 use mathlib.Core.Path.{◌≡◌, refl, sym, ap, ap₂, ◌∙◌}
 use native.Mathlib.Decide.{ℕ_discrete}
@@ -39,7 +39,8 @@ zero_turn l i h z c k = go (ℕ_discrete c i)
 front_at : (l s : List ℕ) (to i k : ℕ) → to ≤ length l → k < to → get_or (paste l to s i) k 0 ≡ get_or l k 0
 front_at l s to i k h g =
     sym (get_or-take to (paste l to s i) k 0 g)
-    ∙ ap (λ (x : List ℕ). get_or x k 0) (ap (take to) (append_assoc (take to l) (take i s) (drop (to + i) l)) ∙ take_at (take to l) _ to (length-take-le to l h))
+    ∙ ap (λ (x : List ℕ). get_or x k 0) (ap (take to) (append_assoc (take to l) (take i s) (drop (to + i) l)) ∙
+    take_at (take to l) _ to (length-take-le to l h))
     ∙ get_or-take to l k 0 g
 
 pub copy_turn : (l l' : List ℕ) (from to n i : ℕ) → from + n ≤ to → to + n ≤ length l → i < n → l' ≡ paste l to (drop from l) i →
@@ -181,8 +182,8 @@ module _ (tb : Table) (ts marks : List ℕ) (covers : (p : ℕ) → p < place_co
   -- A turn: row p is blank, and the rows above are written.
   module _ (firsts sheet blank : List ℕ) (p : ℕ) (h : p < place_count tb) (room : 64 * p + 64 ≤ length sheet)
       (w : RowsTo tb ts marks firsts sheet p) (e : blank ≡ with_row sheet (64 * p) empty_row) where
-    pub turn_blank : (b : Bool) → TypedIf tb p b → not b ≡ true → RowsTo tb ts marks firsts blank (p + 1)
-    turn_blank true t f = absurd (false≢true f)
+    pub turn_blank : (b : Bool) → TypedIf tb p b → b ≡ false → RowsTo tb ts marks firsts blank (p + 1)
+    turn_blank true t f = absurd (true≢false f)
     turn_blank false t f = record {
       filled = λ σ s d.
           more_rows σ s d sheet blank p h room (w.filled σ s d) (e ∙ ap (with_row sheet (64 * p)) (sym (row_blank tb (types_at tb σ) p h t)));
@@ -256,7 +257,7 @@ module _ {bs : List ℕ} {at : ℕ} {ts starts marks : List ℕ} (pl : PlacesIn 
   row_room = omega (arith, fit.fits)
 
   module _ (blank : List ℕ) (e : blank ≡ with_row sheet (64 * p) empty_row) where
-    pub row_left : (b : Bool) → TypedIf (table_of bs) p b → not b ≡ true → RowsTo (table_of bs) ts marks firsts blank (p + 1)
+    pub row_left : (b : Bool) → TypedIf (table_of bs) p b → b ≡ false → RowsTo (table_of bs) ts marks firsts blank (p + 1)
     row_left = turn_blank (table_of bs) ts marks (covered pl) fit.light firsts sheet blank p h row_room w e
 
     module _ (here : Place (table_of bs) p) (c : ℕ) (k : (c ≡ class_in ts (place_var (table_of bs) p)) × (c < length ts)) where

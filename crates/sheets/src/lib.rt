@@ -1,4 +1,6 @@
 // The places of a table: identifiers first, then nodes. The least place whose mark is too high, and the rows of the sheet.
+#![tactic(auto)]
+
 ghost use Rattle.std.specs.Prelude.{◌≡◌, ◌+◌, ◌*◌, ◌<◌, ◌≤◌, length, get_or, drop};
 ghost use Rattle.std.proofs.Math.Seq.{paste};
 ghost use Rattle.rules.specs.Types.{empty_row};
