@@ -1,5 +1,7 @@
 // The typing rules of a table's nodes as shapes of variables and equations between them. The variables are the identifiers, then for each
 // node in order the node itself and the slots of its plan.
+#![tactic(auto)]
+
 ghost use Rattle.std.specs.Prelude.{◌≡◌, ℕ, ◌+◌, ◌/◌, ◌%◌, ◌<◌, ◌≤◌, get_or, length};
 ghost use Rattle.rules.specs.Tables.{table_of, node_count};
 ghost use Rattle.table.specs.Layout.{Fielded};
