@@ -73,7 +73,8 @@ or_three false false false = refl
 
 -- An identifier occurs free in a node where one of its three fields makes it so.
 any_three : (x : ℕ) (h : Bool) (occ : ℕ → Bool) (k : Option Kind) (a b c : ℕ) →
-    ((occurs_in x h occ (get_or (fields_if k) 0 unused) a || occurs_in x h occ (get_or (fields_if k) 1 unused) b) || occurs_in x h occ (get_or (fields_if k) 2 unused) c)
+    ((occurs_in x h occ (get_or (fields_if k) 0 unused) a || occurs_in x h occ (get_or (fields_if k) 1 unused) b) ||
+    occurs_in x h occ (get_or (fields_if k) 2 unused) c)
     ≡ occurs_in_any x h occ (fields_if k) (a ∷ b ∷ c ∷ [])
 any_three x h occ k a b c =
     by_fields
@@ -161,7 +162,8 @@ passed_none bs names = record { words = λ m h. absurd (omega arith); bound = bi
 -- One node more binds x once more or not.
 binders_more : (ns : List Node) (n x : ℕ) → n < length ns → binders (take (suc n) ns) x ≡ binders (take n ns) x + cond (binds_here x (node_at ns n)) 1 0
 unfolding binders
-binders_more ns n x h = occurrences_more is_binder refl x ns n h ∙ ap (λ (k : ℕ). occurrences x (held_in is_binder (take n ns)) + k) (binders_here (node_at ns n) x)
+binders_more ns n x h = occurrences_more is_binder refl x ns n h ∙ ap (λ (k : ℕ). occurrences x (held_in is_binder (take n ns)) + k)
+    (binders_here (node_at ns n) x)
 
 one_more : (t : ℕ) (b : Bool) → (leb 1 t || b) ≡ leb 1 (t + cond b 1 0)
 one_more zero true = refl

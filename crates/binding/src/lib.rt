@@ -1,4 +1,6 @@
 // Refusal 9: a bound identifier is named by exactly one binder and used only in its body; a free one has no binder.
+#![tactic(auto)]
+
 ghost use Rattle.std.specs.Prelude.{◌≡◌, not, ◌&&◌, ◌<◌, eqb, length};
 ghost use Rattle.rules.specs.Tables.{table_of, identifier_count};
 ghost use Rattle.rules.specs.Readable.{Header};
@@ -10,7 +12,7 @@ ghost use Rattle.trees.specs.Arrays.{FieldIn};
 ghost use Rattle.binding.specs.Words.{has_bit, WordIs, free_in, BoundAt, Named};
 
 // The identifiers of a table as bits: named by a binder, named by two, free at the root.
-#[derive(Drop)]
+#[derive(Clone, Copy)]
 struct Names {
     bound: u32,
     twice: u32,

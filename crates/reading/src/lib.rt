@@ -1,4 +1,6 @@
 // Reading a table: refusals 1 to 9 of document 01.
+#![tactic(auto)]
+
 ghost use Rattle.std.specs.Prelude.{◌≡◌};
 ghost use Rattle.rules.specs.Readable.{Header};
 ghost use Rattle.rules.specs.Reading.{reading};
@@ -6,20 +8,20 @@ ghost use Rattle.table.specs.Layout.{Fielded};
 ghost use Rattle.reading.specs.Answers.{reading_of, reading_records, reading_tree, height_of, measured, reading_height};
 
 // A refusal's number and place. The number is a usize, small as it is: with a u8 the compiler copies the answers that hold it byte by byte.
-#[derive(Drop)]
+#[derive(Clone, Copy)]
 pub struct Refusal {
     pub number: usize,
     pub place: usize,
 }
 
-#[derive(Drop)]
+#[derive(Clone, Copy)]
 pub enum Reading {
     Passed,
     Refused(Refusal),
 }
 
 // The height of a table's root, where it passes; 0 where it has none.
-#[derive(Drop)]
+#[derive(Clone, Copy)]
 pub enum Height {
     Root(usize),
     Refused(Refusal),

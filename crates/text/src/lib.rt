@@ -1,4 +1,6 @@
 // The lines of a listing, written into a lent buffer. Each function writes from `at` on and answers the place after its text.
+#![tactic(auto)]
+
 ghost use Rattle.std.specs.Prelude.{[], ◌∷◌, ◌++◌, ◌≡◌, ◌+◌, ◌*◌, ◌<◌, ◌≤◌, length};
 ghost use Rattle.io.specs.Digits.{hex_digit_ascii as Digits·glyph};
 ghost use Rattle.text.specs.Text.{decimal_of, hex_byte, hex_of, unfilled, row_text, letter_of, index_of, line_of, lines_of, refusal_line, accepted_line, Appends};

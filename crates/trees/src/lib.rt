@@ -1,4 +1,6 @@
 // The tree of a table's nodes, refusals 7 and 8: how often each node is a child, and how high it stands.
+#![tactic(auto)]
+
 ghost use Rattle.rules.specs.Readable.{Header};
 ghost use Rattle.std.specs.Prelude.{◌≡◌, cond, ◌+◌, ◌<◌, max, length, get_or};
 ghost use Rattle.rules.specs.Kinds.{is_child};

@@ -1,0 +1,6 @@
+-- Bit by bit.
+use Rattle.binding.proofs.Words.{bit_without}
+use Rattle.binding.proofs.without.Goals as goal
+
+pub returns : goal.returns
+returns c = λ x. bit_without c.args.names c.args.here x
