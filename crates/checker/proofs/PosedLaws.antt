@@ -3,18 +3,17 @@ use Prim.Native.Nat.{ℕ, suc, ◌+◌, ◌*◌, ◌/◌, ◌%◌, ◌≤◌, �
 use mathlib.Core.Bool.{Bool, true, false}
 use mathlib.Core.List.{List, [], ◌∷◌}
 use mathlib.Core.Logic.{◌↔◌}
-use mathlib.Core.Path.{◌≡◌, refl, sym, ap, subst, ◌∙◌}
+use mathlib.Core.Path.{◌≡◌, sym, subst, ◌∙◌}
 use native.Mathlib.Omega.{arith}
 use lib.ListN.{get_or, length, take}
 use lib.Seq.{get_or-take, length-take-le}
 use Rattle.rules.specs.Types.{Ty}
 use Rattle.rules.specs.Tables.{Table, table_of, node_count}
-use Rattle.rules.specs.Verdict.{Typing}
 use Rattle.laws.proofs.TableLaws.{binds_length, nodes_length}
 use Rattle.unification.specs.Problem.{Shape, Eqn, eqn, Matches, Holds, Solves, PartsBelow, AllBelow}
 use Rattle.unification.specs.Solved.{LeafDeclared}
 use Rattle.terms.specs.Words.{Term, known, link, term_of, ShapeWord, word_eqn}
-use Rattle.terms.specs.Terms.{TermBelow, TermIn, Terms, MeetsTerm, Satisfies, HoldsTo, SidesBelow, TermFrom, SaysAlso}
+use Rattle.terms.specs.Terms.{TermBelow, TermIn, MeetsTerm, Satisfies, HoldsTo, TermFrom, SaysAlso}
 use Rattle.terms.specs.Decided.{TermDeclared, Decided}
 use Rattle.typing.specs.Equations.{base, shape_at, equations, WellFormed, RightNodes, back}
 use Rattle.typing.proofs.VariableLaws.{base_mono, base_bound}
@@ -23,7 +22,7 @@ use Rattle.typing.proofs.HoldsLaws.{HoldsOne, BelowOne, holds_at_law, holds_each
 use Rattle.typing.proofs.ProblemLaws.{well_formed_law, solves→meets}
 use Rattle.typing.proofs.EquationsLaws.{typing→solves, solves→typing}
 use Rattle.typing.proofs.Extending.{extends}
-use Rattle.checker.specs.Solving.{Ready, PartRoom, Typable, Untypable, TypableIs, Satisfiable, SolvedBelow}
+use Rattle.checker.specs.Solving.{Ready, WorkRoom, PartRoom, Typable, Untypable, TypableIs, Satisfiable, SolvedBelow}
 
 -- A word that holds a shape may stand where the shape's parts are variables.
 shape_in_law : {n v w : ℕ} {s : Shape} → ShapeWord w s → PartsBelow n s → TermIn n v w
@@ -195,3 +194,30 @@ module _ {bs shapes eqns starts : List ℕ} (r : Ready bs shapes eqns starts) wh
       where
         moved : (σ κ' : ℕ → Ty) → Holds σ (equations tb (suc j)) → ((v : ℕ) → v < base tb (suc j) → κ' v ≡ σ v) → Holds κ' (equations tb (suc j))
         moved σ κ' q old = holds_moved σ κ' (base tb (suc j)) (equations tb (suc j)) (wf h).below old q
+
+-- The parts of the arrays that the nodes below k take, by the entry of `starts`.
+module _ {bs shapes eqns starts : List ℕ} (r : Ready bs shapes eqns starts) {k : ℕ} (h : k ≤ node_count bs) where
+  pub counted : {m : ℕ} → m ≡ get_or starts k 0 / 4096 → m ≡ length (equations (table_of bs) k)
+  counted e = e ∙ start_count r h
+
+  pub equations_part : {m : ℕ} → m ≡ get_or starts k 0 / 4096 → m ≤ length eqns
+  equations_part e = omega (arith, counted e, equations_fit r h, r.room.equations_room)
+
+  module _ {terms stack marks : List ℕ} (w : WorkRoom bs terms stack marks) {v : ℕ} (e : v ≡ get_or starts k 0 % 4096) where
+    few : v ≤ 32 + 6 * node_count bs
+    few = omega (arith, e, start_variable r h, variables_fit r h)
+
+    pub terms_part : v ≤ length terms
+    terms_part = omega (arith, few, w.terms_room)
+
+    pub stack_part : v ≤ length stack
+    stack_part = omega (arith, few, w.stack_room)
+
+    pub marks_part : v ≤ length marks
+    marks_part = omega (arith, few, w.marks_room)
+
+    pub terms_long : length (take v terms) ≡ base (table_of bs) k
+    terms_long = length-take-le v terms terms_part ∙ e ∙ start_variable r h
+
+    pub marks_long : length (take v marks) ≡ length (take v terms)
+    marks_long = length-take-le v marks marks_part ∙ sym (length-take-le v terms terms_part)

@@ -1,7 +1,7 @@
 -- What Check takes for granted: a table that was read, fresh work arrays that have room for it, and arrays that keep their lengths.
 use Prim.Native.Nat.{ℕ, ◌+◌, ◌*◌, ◌≤◌, ◌<◌}
 use mathlib.Core.List.{List}
-use mathlib.Core.Path.{◌≡◌, subst, sym}
+use mathlib.Core.Path.{◌≡◌}
 use native.Mathlib.Omega.{arith}
 use lib.ListN.{length, replicate, length-replicate}
 use Rattle.rules.specs.Tables.{table_of, node_count, nodes_at}

@@ -2,7 +2,7 @@
 use Prim.Native.Nat.{ℕ, suc, ◌+◌, ◌-◌, ◌≤◌, ◌<◌}
 use mathlib.Core.Bool.{Bool, true, false, not, true≢false, false≢true}
 use mathlib.Core.List.{List}
-use mathlib.Core.Path.{◌≡◌, refl, sym, ap, subst, ◌∙◌}
+use mathlib.Core.Path.{◌≡◌, ap, subst, ◌∙◌}
 use native.Mathlib.Decide.{ℕ_discrete, dec_lt}
 use native.Mathlib.Numerals.{add-one}
 use native.Mathlib.Omega.{arith}
@@ -18,7 +18,8 @@ use Rattle.terms.specs.Decided.{Decision}
 use Rattle.classes.specs.declared.Merged.{Merged}
 use Rattle.classes.specs.declared.Merged.TheVariants.{All, Clash, ClashInside}
 use Rattle.classes.specs.Merging.{MergedAll, Mergeable}
-use Rattle.checker.specs.Solving.{PartRoom, WorkRoom, Typable, Untypable, TypableIs, Satisfiable, Between, FirstClash, count_at, EquationBelow, EquationAt, is_all}
+use Rattle.checker.specs.Solving.{PartRoom, WorkRoom, Typable, Untypable, TypableIs, Satisfiable}
+use Rattle.checker.specs.Solving.{Between, FirstClash, count_at, EquationBelow, EquationAt, is_all}
 
 pub copied : (shapes terms terms' : List ℕ) {i : ℕ} → terms' ≡ fill_to (λ x. get_or shapes x 0) i terms → i ≤ length terms → length terms ≤ i →
     length terms ≤ length shapes → terms' ≡ take (length terms) shapes

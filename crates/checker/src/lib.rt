@@ -1,4 +1,6 @@
 // Decides whether a table's condition is well typed, and writes its types.
+#![tactic(auto)]
+
 mod solving;
 
 ghost use Rattle.std.specs.Prelude.{◌≡◌, ◌≤◌, length};
