@@ -1,6 +1,6 @@
 -- Relations in the arena. Whether no pair shares its first part with the next one is decided by the pairs that are left (`Checking`); what is found is
--- an application (`image-found`). Pairs of two values of one cell each are three cells: the order of the first parts of two neighbours is that of their
--- cells (`cells-order`), so that the first parts make a row (`pair_row`), and e is one where its cell is in the row (`flat-none`, `flat-found`).
+-- an application (`image_found`). Pairs of two values of one cell each are three cells: the order of the first parts of two neighbours is that of their
+-- cells (`cells_order`), so that the first parts make a row (`pair_row`), and e is one where its cell is in the row (`flat_none`, `flat_found`).
 use Rattle.sets.proofs.Base.{ℕ, ◌+◌, ◌-◌, ◌%◌, ◌≤◌, ◌<◌, Ordering·lt, Ordering·eq, Ordering·gt, suc, ◌*◌, compare, Bool, true, false, List, ◌≡◌, refl, sym, ap, ◌∙◌, subst, arith, compare_is_eq, length, get_or, inl, inr}
 use Rattle.functions.proofs.Terms.{Value, pair, set, Values, none, ◌▸◌, members, weight, order, same, left, right, ValueAt, SomeAt, EndsAt, SameAt, SetBelow, SomeValue, ValueBelow, Front, IsPair, AllPairs, SomeRelation, cell_size, AllWeigh, EvenSet, Member, new_firsts, SomePairs, Relation, WithinSet, Applies, PairSought, IsFunction, FlatPairs, SomeFlat, Row}
 use Rattle.laws.proofs.OrderLaws.{then_lt, order_pair, before_order, compare_lt, compare_eq, compare_refl, same_order}
@@ -32,7 +32,11 @@ by_two {s} {top} {i} {n} P k (v ▸ w ▸ ws) f h l =
 other_of : (a c : Value) → (order a c ≡ Ordering·eq → ⊥) → same a c ≡ false
 unfolding same
 other_of a c =
-    elim (order a c) as (λ o. (o ≡ Ordering·eq → ⊥) → compare_is_eq o ≡ false) [ Ordering·lt ↦ λ n. refl | Ordering·eq ↦ λ n. absurd (n refl) | Ordering·gt ↦ λ n. refl ]
+    elim (order a c) as (λ o. (o ≡ Ordering·eq → ⊥) → compare_is_eq o ≡ false) [
+      | Ordering·lt ↦ λ n. refl
+      | Ordering·eq ↦ λ n. absurd (n refl)
+      | Ordering·gt ↦ λ n. refl
+    ]
 
 -- `is_function` and `flat_function`: the pairs left decide. Q is what else is known of them.
 pub record Checking (Q : Values → Type 0) (s : List ℕ) (top : ℕ) (vs : Values) (i left : ℕ) : Type 0 where

@@ -1,5 +1,5 @@
--- Pairs that rise. A pair whose first part is new has a first part less than all that follow (`new-less`); so neighbours tell whether a
--- set of pairs is a function (`firsts-right`), and a function gives the second part of any pair whose first part is e (`applied-found`).
+-- Pairs that rise. A pair whose first part is new has a first part less than all that follow (`new_less`); so neighbours tell whether a
+-- set of pairs is a function (`firsts_right`), and a function gives the second part of any pair whose first part is e (`applied_found`).
 use Rattle.sets.proofs.Base.{true, false, cond, List, [], ◌∷◌, ◌↔◌, ◌⊎◌, inl, inr, ◌≡◌, refl, sym, ap, ◌∙◌, subst, T, T_not, not_T}
 use Rattle.functions.proofs.Terms.{Value, set, Values, members, same, gives, lacks, left, right, keep, paired_with, is_function, applied, CellsFit, FineSet, AllPairs, new_first, new_firsts}
 use Rattle.rules.proofs.Basics.{and_of, and_split, bool_eq}

@@ -1,5 +1,5 @@
 -- Application of a relation f to e. The pairs of f rise by their first parts, so that two pairs that share one are neighbours; that
--- neighbours tell whether f is a function is `firsts-right`.
+-- neighbours tell whether f is a function is `firsts_right`.
 use Rattle.std.specs.Prelude.{ℕ, ◌+◌, ◌%◌, ◌<◌, Bool, true, not, ◌&&◌, List, [], ◌∷◌, ◌≡◌, length, get_or}
 use Rattle.rules.specs.Values.{Value, set, Values, members, weight, same}
 use Rattle.rules.specs.Runs.{Given, gives, lacks}

@@ -1,4 +1,6 @@
 // Relations in the arena: whether one is a function, and application.
+#![tactic(auto)]
+
 ghost use Rattle.std.specs.Prelude.{◌+◌, ◌<◌, true, ◌≡◌, length};
 ghost use Rattle.arena.specs.Code.{SomeValue, SomeRelation};
 ghost use Rattle.functions.specs.Pairs.{SomePairs, FunctionAt, Applies, SomeFlat, FlatFunctionAt, FlatAt, Relation, PairSought, IsFunction, KnownFunction};

@@ -132,7 +132,8 @@ set_stands {s} {top} {n} {to} {zs} b l = record { inside = omega (arith, length-
     x : ℕ
     x = 21474836480 + n
 
-    cell : (i : ℕ) → i < suc (length (codes (values zs))) → get_or (set_at s top x) (top + i) 0 ≡ get_or ((21474836480 + count (values zs)) ∷ codes (values zs)) i 0
+    cell : (i : ℕ) → i < suc (length (codes (values zs))) →
+        get_or (set_at s top x) (top + i) 0 ≡ get_or ((21474836480 + count (values zs)) ∷ codes (values zs)) i 0
     cell zero p = rw (let z : top + 0 ≡ top = omega arith in z) (get_or-set_same s top x 0 l ∙ omega (arith, b.counted))
     cell (suc i) p =
         rw (let z : top + suc i ≡ top + 1 + i = omega arith in z)

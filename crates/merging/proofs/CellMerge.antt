@@ -1,6 +1,6 @@
 -- The merge of two sets whose members are one cell each. A cell that is stored is a value put behind what has been built, or it lies
--- behind it (`cell-put`); so a turn at two cells is a turn of the merge (`merge_step`). What comes before the other set's first cell is
--- so many turns on one side (`taken`), with which the merge begins (`merge-start`).
+-- behind it (`cell_put`); so a turn at two cells is a turn of the merge (`merge_step`). What comes before the other set's first cell is
+-- so many turns on one side (`taken`), with which the merge begins (`merge_start`).
 use Rattle.sets.proofs.Base.{ℕ, zero, suc, ◌+◌, ◌*◌, ◌-◌, ◌≤◌, ◌<◌, Ordering·lt, Ordering·gt, Bool, true, false, cond, List, [], ◌∷◌, ◌++◌, append_assoc, ◌⊎◌, inl, inr, ◌≡◌, refl, sym, ap, ◌∙◌, subst, arith, dec_lt, length, get_or, set_at, length-set, get_or-set_same, get_or-set_other, le-leb, lt-leb, bool_byte}
 use Rattle.merging.proofs.Terms.{Value, Values, none, ◌▸◌, members, count, weight, weights, order, kept_value, code, codes, ValuesAt, Same, EndsAt, Front, Out, Walk, CellTurn, merged, comparisons, TurnAt, Cells, PutPre, PutBehind, Merging, EndPre, Ended, RunsMerge, Walking, CellTurned, RowsBelow, Ahead, RowMerge, SomeRowMerge, RowsWalked, Place}
 use Rattle.laws.proofs.CellsLaws.{count_weights}
@@ -57,6 +57,14 @@ rows_small p =
     let q = p.rows.runs in
     omega (arith, q.on_left, q.on_right, count_weights q.first, count_weights q.second)
 
+cond_none : (k : Bool) (zs : List Value) → cond k [] [] ++ zs ≡ zs
+cond_none true zs = refl
+cond_none false zs = refl
+
+kept_cond : (k : Bool) (v : Value) (xs zs : List Value) → kept_value k v (cond k xs [] ++ zs) ≡ cond k (v ∷ xs) [] ++ zs
+kept_cond true v xs zs = refl
+kept_cond false v xs zs = refl
+
 -- The first p of a run's members, which are less than the other run's first, are taken one by one, in so many comparisons: M merges the rest, and C
 -- counts its comparisons.
 record Taken (k : Bool) (M : List Value → List Value) (C : List Value → ℕ) (s : List ℕ) (top at n : ℕ) (vs : Values) (p : ℕ) : Type 0 where
@@ -83,7 +91,7 @@ module _ (k : Bool) (M : List Value → List Value → List Value) (C : List Val
     counted = refl;
     weighs = refl;
     front = rw (let z : at + 0 ≡ at = omega arith in z, let z : m - 0 ≡ m = omega arith in z) f;
-    all = elim k [ true ↦ refl | false ↦ refl ];
+    all = sym (cond_none k (M (members vs) (members ws)));
     compared = omega arith;
   }
   taken (suc p) none ws f g c d h = absurd (omega (arith, f.counted, h.few))
@@ -116,7 +124,7 @@ module _ (k : Bool) (M : List Value → List Value → List Value) (C : List Val
         counted = omega (arith, t.counted);
         weighs = omega (arith, t.weighs, one);
         front = rw (let z : at + suc p ≡ at + 1 + p = omega arith in z, let z : m - suc p ≡ m - 1 - p = omega arith in z) t.front;
-        all = (turn v y (members vs) (members ys) first).0 ∙ rw t.all (elim k [ true ↦ refl | false ↦ refl ]);
+        all = (turn v y (members vs) (members ys) first).0 ∙ rw t.all (kept_cond k v (members t.first) _);
         compared = omega (arith, (turn v y (members vs) (members ys) first).1, t.compared);
       }
 

@@ -1,6 +1,6 @@
--- The comparisons of a merge: a turn is one (`comparisons-turn`), there are none where either list is empty (`comparisons-none`), and
--- otherwise fewer than both have members (`comparisons-few`).
-use Rattle.sets.proofs.Base.{ℕ, ◌+◌, ◌-◌, ◌≤◌, ◌<◌, Ordering, Ordering·lt, Ordering·eq, Ordering·gt, List, [], ◌∷◌, ◌⊎◌, inl, inr, ◌≡◌, refl, arith, length}
+-- The comparisons of a merge: a turn is one (`comparisons_turn`), there are none where either list is empty (`comparisons_none`), and
+-- otherwise fewer than both have members (`comparisons_few`).
+use Rattle.sets.proofs.Base.{◌+◌, ◌-◌, ◌≤◌, ◌<◌, Ordering, Ordering·lt, Ordering·eq, Ordering·gt, List, [], ◌∷◌, ◌⊎◌, inl, inr, ◌≡◌, refl, arith, length}
 use Rattle.merging.proofs.Terms.{Value, Values, members, order, rest_left, rest_right, comparisons, compared_next}
 
 pub comparisons_nil : (vs : List Value) → comparisons vs [] ≡ 0

@@ -1,6 +1,6 @@
 -- Comparisons of two runs of members in the arena: at most 510, none where either run is exhausted, and a turn is one of them.
-use Rattle.sets.proofs.Base.{ℕ, ◌+◌, ◌≤◌, ◌<◌, true, List, ◌∷◌, ◌⊎◌, inl, inr, ◌≡◌, refl, sym, arith}
-use Rattle.merging.proofs.Terms.{Value, Values, ◌▸◌, members, order, Front, Turn, comparisons, rest_left, rest_right, TurnAt, Compares}
+use Rattle.sets.proofs.Base.{ℕ, ◌+◌, ◌≤◌, ◌<◌, true, List, ◌⊎◌, inl, inr, ◌≡◌, refl, sym, arith}
+use Rattle.merging.proofs.Terms.{Values, members, order, Front, Turn, comparisons, rest_left, rest_right, TurnAt, Compares}
 use Rattle.laws.proofs.SetOrder.{members_count}
 use Rattle.merging.proofs.ComparisonLaws.{comparisons_nil, comparisons_most, turn_compared}
 use Rattle.sets.proofs.SearchLaws.{no_front, by_fronts}

@@ -1,4 +1,4 @@
--- Merging rising lists is union, intersection and difference: those of the rules (`union-merged`, `inter-merged`, `diff-merged`).
+-- Merging rising lists is union, intersection and difference: those of the rules (`union_merged`, `inter_merged`, `diff_merged`).
 use Rattle.sets.proofs.Base.{Ordering, Ordering·lt, Ordering·eq, Ordering·gt, Bool, true, false, cond, not, List, [], ◌∷◌, ◌++◌, ◌≡◌, refl, sym, ap, ◌∙◌, subst}
 use Rattle.merging.proofs.Terms.{placed, Value, order, set, Values, none, ◌▸◌, members, values, AllFit, CellsFit, kept_value, insert, rising, is_in, keep, set_of, two_value, turned, merged, union, inter, diff, gives, FineSet}
 use Rattle.laws.proofs.OrderLaws.{Small, flip, order_flip, order_eq, before_order, order_before}
@@ -9,7 +9,10 @@ use Rattle.sets.proofs.MemberLaws.{after_order, before_all, is_in_turn, is_in_be
 -- An exhausted second list leaves the first.
 pub merged_nil : (l b r : Bool) (vs : List Value) → merged l b r vs [] ≡ cond l vs []
 unfolding merged
-merged_nil l b r [] = elim l [ true ↦ elim r [ true ↦ refl | false ↦ refl ] | false ↦ elim r [ true ↦ refl | false ↦ refl ] ]
+merged_nil true b true [] = refl
+merged_nil true b false [] = refl
+merged_nil false b true [] = refl
+merged_nil false b false [] = refl
 merged_nil l b r (v ∷ vs) = refl
 
 -- A turn, by the order of the first members.
@@ -22,7 +25,8 @@ merged_turn l b r o v w vs ws e = rw e
 merged_first : (l b r : Bool) (vs : List Value) (w : Value) (ws : List Value) → All (Before w) vs →
     merged l b r vs (w ∷ ws) ≡ kept_value r w (merged l b r vs ws)
 unfolding merged
-merged_first l b r [] w ws h = elim r [ true ↦ refl | false ↦ refl ]
+merged_first l b true [] w ws h = refl
+merged_first l b false [] w ws h = refl
 merged_first l b r (v ∷ vs) w ws h = merged_turn l b r Ordering·gt v w vs ws (after_order v w h.0)
 
 merged_all : (P : Value → Type 0) (l b r : Bool) (vs ws : List Value) → All P vs → All P ws → All P (merged l b r vs ws)

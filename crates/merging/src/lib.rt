@@ -1,4 +1,6 @@
 // Two sets in the arena, whose members rise, merged: union, intersection and difference.
+#![tactic(auto)]
+
 ghost use Rattle.std.specs.Prelude.{◌+◌, ◌≤◌, ◌<◌, true, cond, ◌≡◌, length};
 ghost use Rattle.arena.specs.Code.{SomeSet};
 ghost use Rattle.sets.specs.Fronts.{RunEnds};
@@ -14,7 +16,7 @@ struct Out {
 }
 
 // A merge on its way: what is left of both sets, what has been built, and the comparisons made.
-#[derive(Drop)]
+#[derive(Clone, Copy)]
 struct Walk {
     a: usize,
     m: u64,

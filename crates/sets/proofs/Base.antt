@@ -4,7 +4,7 @@ pub use Prim.Native.Nat.Ordering.{gt as Ordering·gt}
 pub use Prim.Native.Nat.Ordering.{lt as Ordering·lt}
 pub use Prim.Native.Nat.{Ordering, ◌%◌, ◌*◌, ◌+◌, ◌-◌, ◌/◌, ◌<◌, ◌≤◌, compare, suc, zero, ℕ}
 pub use borrow.Author.Rules.{rules}
-pub use borrow.Author.Tests.{eqb_false, eqb_true, le-leb, le-ltb, leb-false, leb-true, lt-leb, lt-ltb, ltb-false, ltb-true, not-false, not-true}
+pub use borrow.Author.Tests.{eqb-false, eqb-true, le-leb, le-ltb, leb-false, leb-true, lt-leb, lt-ltb, ltb-false, ltb-true, not-false, not-true}
 pub use lib.Dec.{T, T_not, eqb, compare_is_eq, ltb, ltb→lt, lt→ltb, not_T}
 pub use lib.ListN.{get_or, length, length-set, set as set_at}
 pub use lib.Seq.{get_or-set_other, get_or-set_same}

@@ -1,5 +1,5 @@
 -- Rows of cells. The search halves what is left (`Halving`). The members of a set that weigh one cell each, known by the first
--- (`flat-cells`), make a row (`cells-row`), and a value is a member where its cell is in the row (`cell_in`).
+-- (`flat_cells`), make a row (`cells_row`), and a value is a member where its cell is in the row (`cell_in`).
 use Rattle.sets.proofs.Base.{ℕ, zero, suc, ◌+◌, ◌*◌, ◌-◌, ◌%◌, ◌≤◌, ◌<◌, compare, List, inl, inr, ◌≡◌, refl, sym, ap, ◌∙◌, subst, arith, ℕ_discrete, dec_lt, ltb, ltb→lt, lt→ltb, length, get_or}
 use Rattle.sets.proofs.Terms.{Value, scalar, pair, set, Values, none, ◌▸◌, members, weight, order, is_in, cell_size, code, ValueAt, Same, CellsFit, EndsAt, parts_of, AllWeigh, EvenSet, SetBelow, SomeSet, ValueBelow, Front, Cells, RunEnds, Row, LowerBound, Found, FineValue, SomeFine}
 use Rattle.rules.proofs.Basics.{bool_eq}
@@ -102,7 +102,7 @@ cells_weigh {vs = none} f c = tt
 cells_weigh {s} {top} {at} {n} {vs = v ▸ vs} f c =
     let e : weight v ≡ 1 = omega (arith, cells_first c (omega (arith, f.counted)) v (front_value s top at n v vs f) f.fits.0) in
     let g = front_next s top at n v vs f (at + 1) (n - 1) (omega arith) (omega (arith, f.counted)) in
-    (e, cells_weigh g (cells_part c (omega arith) (omega (arith, f.counted))))
+    (e, cells_weigh {at = at + 1} {n = n - 1} {vs = vs} g (cells_part c (omega arith) (omega (arith, f.counted))))
 
 pub cells_end : {s : List ℕ} {at n : ℕ} → Cells s at n → RunEnds s at n (at + n)
 cells_end c top vs f = omega (arith, weights_even 1 vs (cells_weigh f c), f.counted)

@@ -1,6 +1,6 @@
 -- A turn of a walk over two sets, and inclusion, which takes such turns. Where the members are one cell each, a turn goes by the order of two cells as
 -- numbers.
-use Rattle.sets.proofs.Base.{ℕ, suc, ◌+◌, ◌-◌, ◌≤◌, ◌<◌, Ordering, Ordering·lt, Ordering·eq, Ordering·gt, ◌%◌, Bool, true, false, cond, List, [], ◌∷◌, ◌≡◌, refl, sym, ap, ◌∙◌, subst, arith, length, get_or, ltb, eqb, lt-ltb, le-ltb, eqb_true, eqb_false, bool_byte}
+use Rattle.sets.proofs.Base.{ℕ, suc, ◌+◌, ◌-◌, ◌≤◌, ◌<◌, Ordering, Ordering·lt, Ordering·eq, Ordering·gt, ◌%◌, Bool, true, false, cond, List, [], ◌∷◌, ◌≡◌, refl, sym, ap, ◌∙◌, subst, arith, length, get_or, ltb, eqb, lt-ltb, le-ltb, eqb-true, eqb-false, bool_byte}
 use Rattle.sets.proofs.Terms.{Value, Values, ◌▸◌, members, count, weight, order, none, all_in, is_in, CellsFit, order_code, SomeAt, EndsAt, Compared, ValuesCompared, Rows, Rises, Front, AllFit, SetBelow, Turn, keep_of, rest_left, rest_right, Turned, TurnAt, TwoFronts, TwoRuns, Cells, Found, TwoRows}
 use Rattle.laws.proofs.OrderLaws.{flip, order_eq, order_flip, order_before}
 use Rattle.laws.proofs.SetOrder.{All, Before}
@@ -214,12 +214,12 @@ module _ {s : List ℕ} {a m b n : ℕ} {whole : Bool} (h : Including s a m b n 
         go : (e : Bool) → eqb (get_or s a 0) (get_or s b 0) ≡ e → Including s (a + bool_byte e) (m - bool_byte e) (b + 1) (n - 1) whole
         go true e =
             ((including_turn h l (λ z. omega arith)
-            (turn_equal (cell_equal s a b ends2 (eqb_true _ _ e)) ends ends2 (let z : suc (n - 1) ≡ n = omega arith in z) refl
+            (turn_equal (cell_equal s a b ends2 (eqb-true _ _ e)) ends ends2 (let z : suc (n - 1) ≡ n = omega arith in z) refl
             (let z : suc (m - 1) ≡ m = omega arith in z))).0 refl).0
         go false e =
             rw (let z : a + 0 ≡ a = omega arith in z, let z : m - 0 ≡ m = omega arith in z)
             ((including_turn h l (λ z. omega arith)
-            (turn_greater (cell_greater s a b ends2 (omega (arith, eqb_false (get_or s a 0) (get_or s b 0) e))) ends ends2
+            (turn_greater (cell_greater s a b ends2 (omega (arith, eqb-false (get_or s a 0) (get_or s b 0) e))) ends ends2
             (let z : suc (n - 1) ≡ n = omega arith in z) (λ z. omega arith) (λ z. omega arith))).0 refl).0
 
 -- A walk over m cells from a on and n from b on: those that are left decide.

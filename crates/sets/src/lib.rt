@@ -1,4 +1,6 @@
 // Sets in the arena, whose members rise: membership and inclusion.
+#![tactic(auto)]
+
 ghost use Rattle.std.specs.Prelude.{◌+◌, ◌<◌, true, length};
 ghost use Rattle.arena.specs.Code.{EndsAt, SomeSet, SetAt, SomeValue};
 ghost use Rattle.sets.specs.Fronts.{SeekPre, Sought, Contains, Includes, TwoFronts, TurnAt, TwoRuns, RunIn};
