@@ -227,7 +227,8 @@ module _ {gs bs : List ℕ} {p : ℕ} {cs rest : List ℕ} (b : Bytes bs) (k : T
         back_to (set s.front) s.back e (s.counted ∙ w) ((omega (arith, s.counted), j.0), j.1) s.counted i
     back_by (suc (suc (suc (suc (suc (suc n)))))) e g vs h = absurd g
 
-  pub back : T (cell_good gs (first_cell bs)) → Ahead gs (drop 8 bs) (p - 1 + parts_of (first_cell bs)) cs rest → Ahead gs bs p (arena_cell (first_cell bs) ∷ cs) rest
+  pub back : T (cell_good gs (first_cell bs)) → Ahead gs (drop 8 bs) (p - 1 + parts_of (first_cell bs)) cs rest →
+      Ahead gs bs p (arena_cell (first_cell bs) ∷ cs) rest
   unfolding cell_good
   back g a =
       let o = word_at_law bs 0 b in

@@ -32,7 +32,7 @@ pub record EntryReady (table : List ℕ) (x : ℕ) (bs : List ℕ) (at : ℕ) (s
   pub named : x < identifier_count table
   pub copy : CopyReady table bs at s top
 
--- Each identifier's value stands below `end` where the environment says; those without one have the cell of `noValue`. What
+-- Each identifier's value stands below `end` where the environment says; those without one have the cell of `no_value`. What
 -- has been read lies from `top` on, within the room that was asked for.
 pub record Bound (gs ws bs s env : List ℕ) (top end : ℕ) : Type 0 where
   pub values : List Value

@@ -1,4 +1,6 @@
 // The values buffer of document 01 (refusal 14), read into the arena.
+#![tactic(auto)]
+
 ghost use Rattle.std.specs.Prelude.{◌≡◌, true, ◌+◌, ◌≤◌, ◌<◌};
 ghost use Rattle.rules.specs.Tables.{table_of};
 ghost use Rattle.rules.specs.Readable.{Header};

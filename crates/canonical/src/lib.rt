@@ -1,4 +1,6 @@
 // Whether a value in the arena is one that document 01 allows: the members of each set in it rise and share a type (refusal 14).
+#![tactic(auto)]
+
 ghost use Rattle.std.specs.Prelude.{◌≡◌, true, cond, ◌+◌, ◌<◌, get_or};
 ghost use Rattle.fitting.specs.Agree.{SomeTyped};
 ghost use Rattle.canonical.specs.Ordered.{WholeValue};

@@ -1,5 +1,5 @@
--- The bytes of a value's cells in the arena are its cells in the buffer: of its own cell, since that is `arenaCell` of its first cell in the
--- buffer (`Ahead`), and `arenaCell` is its own inverse (`CellAt`); of all its cells by induction on the value.
+-- The bytes of a value's cells in the arena are its cells in the buffer: of its own cell, since that is `arena_cell` of its first cell in the
+-- buffer (`Ahead`), and `arena_cell` is its own inverse (`CellAt`); of all its cells by induction on the value.
 use Prim.Native.Nat.{ℕ, ◌*◌, ◌/◌, ◌%◌, ◌<◌}
 use mathlib.Core.List.{List, [], ◌∷◌, ◌++◌, append_assoc, append-nil}
 use mathlib.Core.Path.{◌≡◌, refl, sym, ap, ap₂, ◌∙◌}
@@ -8,7 +8,7 @@ use lib.ListN.{length, length-append}
 use Rattle.rules.specs.Values.{Value, scalar, pair, set, Values, none, ◌▸◌, tag, payload}
 use Rattle.rules.specs.Cells.{bytes4, twos, cell, cells, cells_of}
 use Rattle.laws.proofs.CellsLaws.{payload_word}
-use Rattle.arena.specs.Code.{cell_size, code, codes, CellsFit, AllFit}
+use Rattle.arena.specs.Code.{code, codes, CellsFit, AllFit}
 use Rattle.arena.proofs.CodeLaws.{cell_parts, fits_encodable}
 use Rattle.arena.proofs.Standing.{own_cell}
 use Rattle.fitting.proofs.Cells.{tag_most}

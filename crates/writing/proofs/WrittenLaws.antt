@@ -1,4 +1,4 @@
--- How a value is written: the loop keeps `cellsPut`, the bytes of the cells so far and behind them what stood there before; a turn stores eight
+-- How a value is written: the loop keeps `cells_put`, the bytes of the cells so far and behind them what stood there before; a turn stores eight
 -- bytes more; at the end the cells are those of the value (`ValueBytes`).
 use Prim.Native.Nat.{ℕ, ◌+◌, ◌*◌, ◌-◌, ◌/◌, ◌%◌, ◌≤◌, ◌<◌}
 use mathlib.Core.List.{List, [], ◌∷◌, ◌++◌}

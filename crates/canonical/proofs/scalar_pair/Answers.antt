@@ -1,0 +1,20 @@
+-- `scalar_pair`: by the three cells, which a pair has.
+use Prim.Native.Nat.{◌+◌, ◌<◌}
+use native.Mathlib.Omega.{arith}
+use lib.ListN.{length}
+use Rattle.fitting.proofs.Cells.{inside}
+use Rattle.canonical.proofs.Neighbours.{pair_inside}
+use Rattle.canonical.proofs.scalar_pair.Goals as goal
+
+pub bounds-s-at : goal.bounds-s-at
+bounds-s-at c = inside c.requires
+
+pub bounds-s-at-2 : goal.bounds-s-at-2
+bounds-s-at-2 c =
+    let within : c.args.at + 2 < length c.args.s.now = pair_inside c.requires c.if-s-at-ne-PAIR.false in
+    omega (arith, within)
+
+pub bounds-s-at-3 : goal.bounds-s-at-3
+bounds-s-at-3 c =
+    let within : c.args.at + 2 < length c.args.s.now = pair_inside c.requires c.if-s-at-ne-PAIR.false in
+    omega (arith, within)
