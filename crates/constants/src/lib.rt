@@ -1,4 +1,6 @@
 // The constants of one cell of a readable table, put into the arena before it is evaluated; and whether any of its nodes builds a value there.
+#![tactic(auto)]
+
 ghost use Rattle.std.specs.Prelude.{◌≡◌, ◌≤◌, ◌<◌, length};
 ghost use Rattle.rules.specs.Tables.{node_count, nodes_at};
 ghost use Rattle.rules.specs.Readable.{Readable};

@@ -1,5 +1,5 @@
 -- A value put among the rising members that stand in the arena. The members are passed while they are less (`Finding`); what stands from the
--- place on is moved up, the last cell first (`Shifting`), and the value is copied into the gap (`inserts-put`).
+-- place on is moved up, the last cell first (`Shifting`), and the value is copied into the gap (`inserts_put`).
 use Rattle.products.proofs.Base.{ℕ, ◌+◌, ◌-◌, ◌≤◌, ◌<◌, Bool, true, false, cond, List, [], ◌∷◌, ◌++◌, append-nil, ◌↔◌, ◌≡◌, refl, sym, ap, ◌∙◌, subst, arith, ℕ_discrete, eqb, length, get_or, set_at, length-set, get_or-set_same, get_or-set_other}
 use Rattle.parts.proofs.Terms.{Value, values, count, weight, weights, order, insert, rising, code, codes, Stands, ValueAt, Same, CellsFit, SomeAt, EndsAt, Compared, Copied, ValueBelow, StandBetween, last_of, LastAt, BuiltParts, PlaceBetween, FindPre, InsertPre, MovedLast, Out, Place}
 use Rattle.laws.proofs.SetOrder.{Rising, insert_all}

@@ -1,5 +1,5 @@
--- Lists of parts. `insert` passes the members that are less than its value (`insert-behind`), so the first that is not less decides, and where
--- the value is not less than the last member, that one does (`insert-last`). `rising` does not mind the order of a list (`rising-onto`).
+-- Lists of parts. `insert` passes the members that are less than its value (`insert_behind`), so the first that is not less decides, and where
+-- the value is not less than the last member, that one does (`insert_last`). `rising` does not mind the order of a list (`rising_onto`).
 use Rattle.products.proofs.Base.{ℕ, ◌+◌, ◌≤◌, ◌<◌, Ordering, Ordering·lt, Ordering·eq, Ordering·gt, cond, List, [], ◌∷◌, ◌++◌, append_assoc, inl, ◌≡◌, refl, sym, ap, ◌∙◌, subst, arith, eqb}
 use Rattle.parts.proofs.Terms.{Value, values, weight, weights, order, placed, insert, rising, order_code, last_of}
 use Rattle.laws.proofs.OrderLaws.{flip, Small, order_flip, order_eq, before_order, order_before, before_trans}

@@ -1,6 +1,6 @@
 -- `parts`: the pass over the pairs of a set. What has been built is `rising` of the parts so far (`Taking`); each turn puts the part of one pair more.
 use Rattle.products.proofs.Base.{ℕ, ◌+◌, ◌-◌, ◌%◌, ◌≤◌, ◌<◌, Bool, true, false, List, [], ◌∷◌, map, ◌≡◌, refl, ap, ◌∙◌, arith, get_or, set_at}
-use Rattle.parts.proofs.Terms.{Value, scalar, pair, set, Values, none, ◌▸◌, members, values, count, weight, weights, set_of, rising, codes, Same, SomeAt, EndsAt, ValueBelow, Made, Front, AllPairs, Appended, part, chosen, PartsPre, BuiltParts, InsertPre, Inserts, Out}
+use Rattle.parts.proofs.Terms.{Value, scalar, pair, set, Values, none, ◌▸◌, members, values, weight, weights, set_of, rising, codes, Same, SomeAt, EndsAt, ValueBelow, Made, Front, AllPairs, Appended, part, chosen, PartsPre, BuiltParts, InsertPre, Inserts, Out}
 use Rattle.laws.proofs.OrderLaws.{Small}
 use Rattle.laws.proofs.SetOrder.{all_map}
 use Rattle.laws.proofs.Membership.{left_small, right_small}

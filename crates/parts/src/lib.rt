@@ -1,10 +1,12 @@
 // The parts of the pairs of a set in the arena: domain and range.
+#![tactic(auto)]
+
 ghost use Rattle.std.specs.Prelude.{true, false, ◌≡◌, ◌+◌, ◌<◌, ◌≤◌, length};
 ghost use Rattle.arena.specs.Code.{SomeRelation, Copied};
 ghost use Rattle.parts.specs.Parts.{PartsPre, TakesParts, Domains, Ranges, chosen, FindPre, Finds, InsertPre, FindsPlace, Inserts, MovedLast};
 
 // Members that have been built: where the last one stands (0 where there is none), where they end, their number.
-#[derive(Drop)]
+#[derive(Clone, Copy)]
 struct Out {
     last: usize,
     to: usize,
@@ -12,7 +14,7 @@ struct Out {
 }
 
 // The place of a value among rising members: where the first stands that is not less, and whether it is equal.
-#[derive(Drop)]
+#[derive(Clone, Copy)]
 struct Place {
     at: usize,
     equal: bool,

@@ -1,4 +1,6 @@
 // The power set of a set in the arena.
+#![tactic(auto)]
+
 ghost use Rattle.std.specs.Prelude.{◌+◌, ◌*◌, ◌<◌, ◌≤◌, length};
 ghost use Rattle.arena.specs.Code.{SomeSet};
 ghost use Rattle.powers.specs.Power.{Powers, masks, CountsSubsets, AddPre, Added, MarkPre, Marks, SubsetPre, Subsets, AllPre, AllSubsets};
@@ -7,7 +9,7 @@ ghost use Rattle.powers.specs.Power.{Powers, masks, CountsSubsets, AddPre, Added
 const MOST: u64 = arena::HEAVIEST as u64;
 
 // Members of a subset that have been built: where they end, and their number.
-#[derive(Drop)]
+#[derive(Clone, Copy)]
 struct Out {
     to: usize,
     count: u64,

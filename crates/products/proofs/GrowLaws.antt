@@ -50,7 +50,8 @@ pub grown_start : (s : List ℕ) (to : ℕ) (whole : List ℕ) → to ≤ length
 grown_start s to whole l = record { done = []; appended = appended_none s to l; all = refl }
 
 module _ {s : List ℕ} {to : ℕ} {s' : List ℕ} {r : ℕ} {whole : List ℕ} where
-  pub grown_step : {xs : List ℕ} (rest : List ℕ) {s'' : List ℕ} {q : ℕ} → Grown s to s' r whole (xs ++ rest) → Appended s' r s'' q xs → Grown s to s'' q whole rest
+  pub grown_step : {xs : List ℕ} (rest : List ℕ) {s'' : List ℕ} {q : ℕ} → Grown s to s' r whole (xs ++ rest) → Appended s' r s'' q xs →
+      Grown s to s'' q whole rest
   grown_step {xs} rest g a =
       record { done = g.done ++ xs; appended = appended_then g.appended a; all = g.all ∙ sym (append_assoc g.done xs rest) }
 

@@ -1,4 +1,6 @@
 // Values built in the arena from others: scalars, singletons, pairs, intervals, products.
+#![tactic(auto)]
+
 ghost use Rattle.std.specs.Prelude.{[], ◌∷◌, true, false, ◌≡◌, ◌+◌, ◌*◌, ◌<◌, ◌≤◌, length};
 ghost use Rattle.rules.specs.Values.{truth_value};
 ghost use Rattle.rules.specs.Operations.{set_of, elements_from};
@@ -137,7 +139,7 @@ fn rows(s: &mut [u64], a: usize, n: u64, b: usize, m: u64, to: usize) -> usize
 }
 
 // The numbers of a set's members and of their cells.
-#[derive(Drop)]
+#[derive(Clone, Copy)]
 pub struct Size {
     pub members: u64,
     pub cells: u64,
