@@ -1,5 +1,5 @@
 -- What the proofs of the functions cite.
-pub use Rattle.operations.proofs.Base.{absurd01, ap, arith, eq-eqb, false≢true, inl, inr, leb-true, ne_eqb, needs, not, refl}
+pub use Rattle.operations.proofs.Base.{absurd01, ap, arith, eq-eqb, false≢true, inl, inr, leb-true, ne_eqb, not, refl}
 pub use Rattle.operations.proofs.Terms.{apply, at_most, card, choice, diff, dom, equal, inter, interval, member, minus, pairing, plus, power, product, ran, singleton, subset, t̂, union, whole, û}
 pub use Rattle.operations.proofs.DoubleLaws.{apply_none, apply_some, interval_done, merge_done, merge_unlike, minus_done, number_far, number_near, pair_done, plus_done, product_done, ready_first, ready_function, ready_second, ready_sets, ready_values, sum_unlike, two_last, two_of, two_unlike}
 pub use Rattle.operations.proofs.FitLaws.{function_seen, ready_both, some_relation}

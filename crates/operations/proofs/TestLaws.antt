@@ -2,7 +2,7 @@
 -- cells.
 use Rattle.operations.proofs.Base.{ℕ, ◌+◌, ◌≤◌, Bool, true, false, not, ◌≢◌, List, [], ◌∷◌, ◌≡◌, refl, sym, ap, ◌∙◌, subst, arith, le-leb, lt-leb, not-true, not-false, T, leb, leb→le, le→leb, eqb, eqb→eq, eqb_refl, ℤ, pos, negsuc, length, get_or, bool_eq}
 use lib.Signed.{le_z}
-use Rattle.operations.proofs.Terms.{whole, Value, int, payload, order, same, Test, equal, member, subset, at_most, test, t̂, P̂, numᵖ, test_rule, fits, holds, excess, code, SomeSet, SomeValue, SameAt, FitTwo, Sizes, GoodAt, Truth, Unlike, Operands, tested, TestDone, NumberCell, NumbersTold, TestOf}
+use Rattle.operations.proofs.Terms.{whole, Value, int, payload, same, Test, equal, member, subset, at_most, test, t̂, P̂, numᵖ, test_rule, fits, holds, excess, code, SomeSet, SomeValue, SameAt, FitTwo, Sizes, GoodAt, Truth, Unlike, Operands, tested, TestDone, NumberCell, NumbersTold, TestOf}
 use Rattle.laws.proofs.OrderLaws.{same_eq, same_refl}
 use Rattle.arena.proofs.CodeLaws.{all_agree}
 use Rattle.sets.specs.Fronts.{Contains, Includes}

@@ -1,4 +1,6 @@
 // What each kind gives for its operands' values, by kind codes: refusals 15 to 18, and values built in the arena.
+#![tactic(auto)]
+
 ghost use Rattle.std.specs.Prelude.{◌≡◌, true};
 ghost use Rattle.operations.specs.Outcomes.{ended, OneReady, OneOf, SomeOperands, TwoReady, TwoOf, IsLight, LightOf, TestOf, LeafReady, LeafDone};
 ghost use Rattle.operations.specs.Good.{SomeGood, FunctionSeen};

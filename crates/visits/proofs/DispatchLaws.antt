@@ -175,10 +175,12 @@ unbuilt_ready p e u = record { node = p; same = e; kind = u.0; is = u.1; unbuilt
 module _ {bs env s : List ℕ} {top k n left : ℕ} (v : Visited bs env s top k n left) where
   -- A node's kind is in the range of its category, and so the last arms.
   pub predicate_code : IsPred bs n → (1 ≤ k) × (k ≤ 11)
-  predicate_code h = codes_within k 1 11 (in_range_law predicate _ (leb 20 k && leb k 43) (by_range_law k ∙ category_is_law predicate (kind_of k) (rw v.kind h)))
+  predicate_code h = codes_within k 1 11 (in_range_law predicate _ (leb 20 k && leb k 43)
+      (by_range_law k ∙ category_is_law predicate (kind_of k) (rw v.kind h)))
 
   pub expression_code : IsExpr bs n → (20 ≤ k) × (k ≤ 43)
-  expression_code h = codes_within k 20 43 (in_range_law expression (leb 1 k && leb k 11) _ (by_range_law k ∙ category_is_law expression (kind_of k) (rw v.kind h)))
+  expression_code h = codes_within k 20 43
+      (in_range_law expression (leb 1 k && leb k 11) _ (by_range_law k ∙ category_is_law expression (kind_of k) (rw v.kind h)))
 
   pub join_kind : IsPred bs n → k ≢ 4 → k < 6 → Sort join k
   unfolding kind_of

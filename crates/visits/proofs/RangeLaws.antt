@@ -47,7 +47,8 @@ module _ {bs env s : List ℕ} {top k n left a : ℕ} {x : Kind} (b : Binder bs 
   abbrev r : NodeReady bs env s top n
   r = b.visited.ready
 
-  child_in : (c : Category) (i m : ℕ) → i < 3 → get_or binder_fields i unused ≡ child c → m ≡ get_or (field_words (node_at (table_of bs).nodes n)) i 0 → Child bs n m c
+  child_in : (c : Category) (i m : ℕ) → i < 3 → get_or binder_fields i unused ≡ child c → m ≡ get_or (field_words (node_at (table_of bs).nodes n)) i 0 →
+      Child bs n m c
   child_in c i m l q w = visited_child b.visited x b.code c i m l (rw b.fields l) (rw b.fields q) w
 
   pub range_child : Child bs n a expression

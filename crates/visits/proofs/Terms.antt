@@ -7,7 +7,7 @@ pub use mathlib.Core.Option.{some, Option, none as nothing}
 pub use mathlib.Core.Path.{◌≡◌, refl, sym, ap, ◌∙◌, subst}
 pub use native.Mathlib.Omega.{arith}
 pub use native.Mathlib.Decide.{ℕ_discrete, dec_lt}
-pub use borrow.Author.Tests.{not-true, not-false, eq-eqb, ne_eqb, lt-ltb, le-ltb, le-leb, leb-true, eqb_false}
+pub use borrow.Author.Tests.{not-true, not-false, eq-eqb, ne_eqb, lt-ltb, le-ltb, le-leb, leb-true, eqb-false}
 pub use lib.ListN.{length, get_or, set as set_at, length-set}
 pub use lib.Seq.{get_or-set_other, get_or-set_same}
 pub use mir.Val.{bool_byte}

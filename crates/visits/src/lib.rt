@@ -1,4 +1,6 @@
 // A visit of a node of a readable table: what the evaluators answer, and what they do at a node without calling each other.
+#![tactic(auto)]
+
 ghost use Rattle.std.specs.Prelude.{true, List, ◌≡◌, ℕ, ◌<◌, ◌≢◌};
 ghost use Rattle.rules.specs.Tables.{node_count};
 ghost use Rattle.rules.specs.Readable.{Readable};
