@@ -1,4 +1,6 @@
 // The evaluators: the value rules of document 01 at each node of a readable table, over an arena of cells.
+#![tactic(auto)]
+
 ghost use Rattle.std.specs.Prelude.{◌<◌};
 ghost use Rattle.rules.specs.Kinds.{join, test, quant, one, two};
 ghost use Rattle.visits.specs.Nodes.{IsPred, IsExpr, NoNegation, quant_of};
@@ -8,7 +10,7 @@ use operations::{Outcome, Tested};
 use visits::{Formed, Held, Range};
 
 // The condition at a node. The compiler inlines nothing into a function that calls itself: so this calls `eval_bare`, which calls it.
-#[cycle(each_chosen_each_member_eval_bare_eval_bool_eval_expr_eval_join_eval_one_eval_pred_eval_quant_eval_select_eval_test_eval_two_eval_value_operand)]
+#[cycle(evaluators)]
 pub fn eval_pred(
     table: &[u8],
     env: &[u32; 32],
@@ -26,7 +28,7 @@ pub fn eval_pred(
 }
 
 // A condition that is no negation, or for which no visit is left.
-#[cycle(each_chosen_each_member_eval_bare_eval_bool_eval_expr_eval_join_eval_one_eval_pred_eval_quant_eval_select_eval_test_eval_two_eval_value_operand)]
+#[cycle(evaluators)]
 fn eval_bare(
     table: &[u8],
     env: &[u32; 32],
@@ -54,7 +56,7 @@ fn eval_bare(
 }
 
 // 1, 2, 3 and 5
-#[cycle(each_chosen_each_member_eval_bare_eval_bool_eval_expr_eval_join_eval_one_eval_pred_eval_quant_eval_select_eval_test_eval_two_eval_value_operand)]
+#[cycle(evaluators)]
 fn eval_join(
     table: &[u8],
     env: &[u32; 32],
@@ -90,7 +92,7 @@ fn eval_join(
 }
 
 // 6 to 9
-#[cycle(each_chosen_each_member_eval_bare_eval_bool_eval_expr_eval_join_eval_one_eval_pred_eval_quant_eval_select_eval_test_eval_two_eval_value_operand)]
+#[cycle(evaluators)]
 fn eval_test(
     table: &[u8],
     env: &[u32; 32],
@@ -131,7 +133,7 @@ fn eval_test(
 }
 
 // 10 and 11
-#[cycle(each_chosen_each_member_eval_bare_eval_bool_eval_expr_eval_join_eval_one_eval_pred_eval_quant_eval_select_eval_test_eval_two_eval_value_operand)]
+#[cycle(evaluators)]
 fn eval_quant(
     table: &[u8],
     env: &[u32; 32],
@@ -162,7 +164,7 @@ fn eval_quant(
 }
 
 // The body of a quantifier at each of `count` members from `from` on; the first that decides ends it.
-#[cycle(each_chosen_each_member_eval_bare_eval_bool_eval_expr_eval_join_eval_one_eval_pred_eval_quant_eval_select_eval_test_eval_two_eval_value_operand)]
+#[cycle(evaluators)]
 fn each_member(
     table: &[u8],
     env: &[u32; 32],
@@ -201,7 +203,7 @@ fn each_member(
 
 // The operand at a node. A call costs more than the visit of an identifier or a constant, so that is made here. The function stays small
 // enough to be inlined.
-#[cycle(each_chosen_each_member_eval_bare_eval_bool_eval_expr_eval_join_eval_one_eval_pred_eval_quant_eval_select_eval_test_eval_two_eval_value_operand)]
+#[cycle(evaluators)]
 fn operand(
     table: &[u8],
     env: &[u32; 32],
@@ -225,7 +227,7 @@ fn operand(
 }
 
 // The expression at a node. It calls `eval_value`, which calls it, as `eval_pred` does.
-#[cycle(each_chosen_each_member_eval_bare_eval_bool_eval_expr_eval_join_eval_one_eval_pred_eval_quant_eval_select_eval_test_eval_two_eval_value_operand)]
+#[cycle(evaluators)]
 fn eval_expr(
     table: &[u8],
     env: &[u32; 32],
@@ -242,7 +244,7 @@ fn eval_expr(
 
 // The expression at a node, by its kind. Operands that stand already have no answers, which would go through memory, where the operation
 // builds nothing.
-#[cycle(each_chosen_each_member_eval_bare_eval_bool_eval_expr_eval_join_eval_one_eval_pred_eval_quant_eval_select_eval_test_eval_two_eval_value_operand)]
+#[cycle(evaluators)]
 fn eval_value(
     table: &[u8],
     env: &[u32; 32],
@@ -280,7 +282,7 @@ fn eval_value(
 }
 
 // 25
-#[cycle(each_chosen_each_member_eval_bare_eval_bool_eval_expr_eval_join_eval_one_eval_pred_eval_quant_eval_select_eval_test_eval_two_eval_value_operand)]
+#[cycle(evaluators)]
 fn eval_bool(
     table: &[u8],
     env: &[u32; 32],
@@ -306,7 +308,7 @@ fn eval_bool(
 }
 
 // 27, 33, 35, 36, 38 and 43
-#[cycle(each_chosen_each_member_eval_bare_eval_bool_eval_expr_eval_join_eval_one_eval_pred_eval_quant_eval_select_eval_test_eval_two_eval_value_operand)]
+#[cycle(evaluators)]
 fn eval_one(
     table: &[u8],
     env: &[u32; 32],
@@ -334,7 +336,7 @@ fn eval_one(
 }
 
 // 28 to 32, 37 and 39 to 41
-#[cycle(each_chosen_each_member_eval_bare_eval_bool_eval_expr_eval_join_eval_one_eval_pred_eval_quant_eval_select_eval_test_eval_two_eval_value_operand)]
+#[cycle(evaluators)]
 fn eval_two(
     table: &[u8],
     env: &[u32; 32],
@@ -372,7 +374,7 @@ fn eval_two(
 }
 
 // 34
-#[cycle(each_chosen_each_member_eval_bare_eval_bool_eval_expr_eval_join_eval_one_eval_pred_eval_quant_eval_select_eval_test_eval_two_eval_value_operand)]
+#[cycle(evaluators)]
 fn eval_select(
     table: &[u8],
     env: &[u32; 32],
@@ -411,7 +413,7 @@ fn eval_select(
 }
 
 // The members, of `count` from `from` on, at which the body holds, as a set built at top.
-#[cycle(each_chosen_each_member_eval_bare_eval_bool_eval_expr_eval_join_eval_one_eval_pred_eval_quant_eval_select_eval_test_eval_two_eval_value_operand)]
+#[cycle(evaluators)]
 fn each_chosen(
     table: &[u8],
     env: &[u32; 32],
