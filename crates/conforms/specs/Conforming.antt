@@ -28,7 +28,7 @@ pub record Conforming (bs sheet buffer : List ℕ) : Type 0 where
   pub loads : values_in table buffer ≡ done values
   pub types : (x : ℕ) → Free table x → HasWritten sheet x (get_or values x no_value)
 
--- What follows computes `Conforming` for a sheet of the table's length; `conforming-right` in proofs/ConformingLaws.antt says that
+-- What follows computes `Conforming` for a sheet of the table's length; `conforming_right` in proofs/ConformingLaws.antt says that
 -- it does.
 
 -- A row is that of a type, and the value has it.

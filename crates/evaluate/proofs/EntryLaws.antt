@@ -241,7 +241,8 @@ room_for q e = record { enough = λ b. omega (arith, e); most = omega (arith, e,
 pub no_room : {bs : List ℕ} → (Builds bs → ⊥) → RoomFor bs 0
 no_room none = record { enough = λ b. absurd (none b); most = omega arith }
 
-pub measured : {bs values : List ℕ} {n held r : ℕ} → Readable bs → n ≡ node_count bs → held ≡ cells_at_most (identifier_count bs) (length values) → RoomFor bs r →
+pub measured : {bs values : List ℕ} {n held r : ℕ} → Readable bs → n ≡ node_count bs → held ≡ cells_at_most (identifier_count bs) (length values) →
+    RoomFor bs r →
     Measured bs values (1 + n + held + r)
 measured q en eh m = record {
   needs = record { readable = q; enough = omega (arith, en, eh); room = λ b. omega (arith, en, eh, m.enough b) };

@@ -1,4 +1,6 @@
 // Evaluate: refusals 1 to 9, then 14, then the condition in an arena with room for it, and the report.
+#![tactic(auto)]
+
 ghost use Rattle.std.specs.Prelude.{◌≡◌, false, ℕ};
 ghost use Rattle.rules.specs.Tables.{table_of};
 ghost use Rattle.rules.specs.Readable.{Readable};

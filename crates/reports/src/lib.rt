@@ -1,4 +1,6 @@
 // The report of an evaluation: of an evaluator's answer, and in numbers for C.
+#![tactic(auto)]
+
 ghost use Rattle.std.specs.Prelude.{◌≡◌, ◌<◌};
 ghost use Rattle.rules.specs.Ends.{done};
 ghost use Rattle.reports.specs.declared.Ending.TheVariants.{Decided};

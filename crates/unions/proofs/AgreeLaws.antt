@@ -1,4 +1,4 @@
--- Values and refusals agree with those of a node: the union of two good values, by the merge, is what kind 29 gives, with 15 and 18 (`union-agrees`).
+-- Values and refusals agree with those of a node: the union of two good values, by the merge, is what kind 29 gives, with 15 and 18 (`union_agrees`).
 use Prim.Native.Nat.{ℕ}
 use mathlib.Core.Bool.{Bool, true, false, cond}
 use mathlib.Core.List.{List, [], ◌∷◌}
@@ -6,13 +6,13 @@ use mathlib.Core.Path.{◌≡◌, refl, sym, ap, ◌∙◌}
 use lib.Dec.{T, leb}
 use Rattle.rules.specs.Types.{Atom, Ty, atom, POW}
 use Rattle.rules.proofs.Basics.{absurd01}
-use Rattle.rules.specs.Values.{Value, scalar, pair, set, Values, members, weight}
+use Rattle.rules.specs.Values.{Value, scalar, pair, set, members, weight}
 use Rattle.rules.specs.Kinds.{union}
 use Rattle.rules.specs.Rules.{two_rule}
 use Rattle.rules.specs.Fits.{HasType, fits}
 use Rattle.rules.specs.Cells.{weight_limit, good}
 use Rattle.rules.specs.Runs.{Given, gives, lacks}
-use Rattle.rules.specs.Operations.{set_of, two_value}
+use Rattle.rules.specs.Operations.{set_of}
 use Rattle.rules.specs.Merges.{united, comparisons, Union, unites, heavy, unfit, weighed_union, union_of}
 use Rattle.merging.proofs.MergedLaws.{union_merged}
 use Rattle.operations.specs.Good.{Sizes}

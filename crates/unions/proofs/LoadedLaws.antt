@@ -1,7 +1,7 @@
--- From the values that have been read to the answer: that of the first two values of free identifiers (`union-read`), and what each refusal before it is.
+-- From the values that have been read to the answer: that of the first two values of free identifiers (`union_read`), and what each refusal before it is.
 use Prim.Native.Nat.{ℕ, ◌+◌, ◌≤◌, ◌<◌}
 use mathlib.Core.List.{List}
-use mathlib.Core.Path.{◌≡◌, refl, sym, ◌∙◌, subst}
+use mathlib.Core.Path.{◌≡◌, refl, subst}
 use native.Mathlib.Omega.{arith}
 use lib.ListN.{length, get_or}
 use Rattle.rules.specs.Tables.{table_of, identifier_count}
@@ -24,7 +24,7 @@ use Rattle.buffer.specs.declared.Loaded.TheVariants.{All, Refused as Lacking}
 use Rattle.operations.specs.Good.{GoodAt}
 use Rattle.operations.specs.Outcomes.{TwoReady}
 use Rattle.operations.proofs.GoodLaws.{sizes_small}
-use Rattle.unions.specs.Answers.{Tells, MergeAnswers, Unites, NextFree, MergeReady, LoadedMerges, ArenaFits}
+use Rattle.unions.specs.Answers.{MergeAnswers, Unites, NextFree, MergeReady, ArenaFits}
 use Rattle.unions.specs.declared.MergeAnswer.{MergeAnswer}
 use Rattle.unions.specs.declared.MergeAnswer.TheVariants.{Refused, Unfit}
 use Rattle.unions.proofs.FreeLaws.{two_free_law, fewer_free}

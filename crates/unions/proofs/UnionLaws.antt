@@ -1,21 +1,19 @@
--- The union of two good values in the arena. Those that do not fit the rule of unions are unfit (`unite-unfit`); what the merge has made of the others is
--- their union, or that it is too heavy (`unite-made`, `unite-heavy`). It is what kind 29 gives (`union-agrees`).
-use Prim.Native.Nat.{ℕ, ◌+◌, ◌*◌, ◌≤◌, ◌<◌}
-use mathlib.Core.Bool.{Bool, true, false, not, cond}
+-- The union of two good values in the arena. Those that do not fit the rule of unions are unfit (`unite_unfit`); what the merge has made of the others is
+-- their union, or that it is too heavy (`unite_made`, `unite_heavy`). It is what kind 29 gives (`union_agrees`).
+use Prim.Native.Nat.{ℕ, ◌≤◌, ◌<◌}
+use mathlib.Core.Bool.{Bool, true, false, not}
 use mathlib.Core.List.{List, [], ◌∷◌}
 use mathlib.Core.Logic.{◌≢◌}
-use mathlib.Core.Path.{◌≡◌, refl, sym, ◌∙◌, subst}
+use mathlib.Core.Path.{◌≡◌, refl, ◌∙◌}
 use native.Mathlib.Decide.{dec_lt}
 use native.Mathlib.Omega.{arith}
 use borrow.Author.Tests.{le-leb, lt-leb, not-true, not-false}
-use lib.Dec.{T, leb}
-use Rattle.rules.specs.Values.{Value, set, Values, members, values, weight}
+use Rattle.rules.specs.Values.{Value, Values, members, values, weight}
 use Rattle.rules.specs.Rules.{Pattern, t̂, P̂}
 use Rattle.rules.specs.Fits.{fits}
 use Rattle.rules.specs.Ends.{done}
-use Rattle.rules.specs.Cells.{weight_limit}
 use Rattle.rules.specs.Operations.{set_of}
-use Rattle.rules.specs.Merges.{united, comparisons, Union, unites, heavy, unfit, weighed_union, union_of}
+use Rattle.rules.specs.Merges.{united, comparisons, Union, weighed_union, union_of}
 use Rattle.laws.proofs.CellsLaws.{count_weights}
 use Rattle.arena.specs.Code.{CellsFit, SetBelow}
 use Rattle.fitting.specs.Tests.{FitTwo}

@@ -6,7 +6,6 @@ use Rattle.rules.specs.Cells.{cells}
 use Rattle.rules.specs.Tables.{table_of, identifier_count}
 use Rattle.rules.specs.Readable.{Readable}
 use Rattle.rules.specs.Merges.{Union, unites, heavy, unfit, union_of, union_in}
-use Rattle.reading.specs.declared.Refusal.{Refusal}
 use Rattle.buffer.specs.Buffer.{cells_at_most}
 use Rattle.buffer.specs.Loaded.{Bound, LoadReady}
 use Rattle.operations.specs.Good.{Sizes, GoodAt}

@@ -1,4 +1,6 @@
 // The union of two lent sets by the merge, with its comparisons (document 02, N12).
+#![tactic(auto)]
+
 ghost use Rattle.std.specs.Prelude.{◌≡◌, ◌≤◌, length};
 ghost use Rattle.rules.specs.Readable.{Header, Readable};
 ghost use Rattle.rules.specs.Tables.{table_of, identifier_count};
