@@ -24,7 +24,7 @@ use Rattle.falgrumi.specs.Answers.{reported_end}
 use Rattle.falgrumi.proofs.Demand.{guarantee, accepted_fits}
 use Rattle.falgrumi.proofs.EndNumbers.{NumberFrom, verdict_numbers, accepted_numbers, verdict_byte, evaluation_byte}
 
--- The report that is made of rows: `checkedEvaluation` is the verdict, and then this.
+-- The report that is made of rows: `checked_evaluation` is the verdict, and then this.
 module _ (bs buffer : List ℕ) (budget : ℕ) where
   abbrev report_of : List ℕ → Report
   report_of rows = record {

@@ -1,4 +1,4 @@
--- `checkedEvaluation` at small cases, by computation.
+-- `checked_evaluation` at small cases, by computation.
 use Prim.Native.Nat.{ℕ}
 use mathlib.Core.Bool.{Bool, true, false}
 use mathlib.Core.List.{List, [], ◌∷◌, map}

@@ -6,7 +6,6 @@ use native.Mathlib.Omega.{arith}
 use Rattle.rules.specs.Ends.{End, done, refused}
 use Rattle.rules.specs.Merges.{Union, unites, heavy, unfit}
 use Rattle.rules.proofs.Basics.{absurd01}
-use Rattle.reading.specs.declared.Refusal.{Refusal}
 use Rattle.reports.specs.Told.{InByte}
 use Rattle.unions.specs.Answers.{merge_answered, cells_after}
 use Rattle.unions.specs.declared.MergeAnswer.{MergeAnswer}

@@ -2,7 +2,7 @@
 --
 -- The statements speak of what the calls' contracts equate their answers with, for any bytes (crates/checker/src/lib.rt and
 -- crates/evaluate/src/lib.rt). For the bytes bs of a table and a sheet of room bytes, `verdict bs room` is Check's answer, `done rows`
--- or `refused r p`, refusal r at place p, and `sheetAfter` is the sheet at exit. `evaluation bs buffer budget` has Evaluate's end,
+-- or `refused r p`, refusal r at place p, and `sheet_after` is the sheet at exit. `evaluation bs buffer budget` has Evaluate's end,
 -- `done` with a truth or `refused r p`, its steps, and the values that it forms. `reading bs` is `done tb` where bs is a readable table.
 -- What the statements name stands in crates/rules/specs (Ends, Refusals, Reading, Verdict, Evaluation, Visits), `verdict` computed in
 -- crates/typing/specs/Model.antt, `HasWritten` in crates/conforms/specs/Conforming.antt.
@@ -99,7 +99,7 @@ Demand2Places = OnReadable λ answer tb. (p : ℕ) →
 
 -- DEMAND 3. Where Check accepts a table and writes rows, the values pass 14, and the value of each free identifier has the type in its row,
 -- every evaluation ends in a truth or one of 16 to 19, so never in 15; every value that it forms at a node has the type written for that
--- node; and so has the value of every visit to an expression that is not refused, so that no value is left out (`evaluationVisits`).
+-- node; and so has the value of every visit to an expression that is not refused, so that no value is left out (`evaluation_visits`).
 abbrev pub Demand3 : Type 0
 Demand3 = (bs buffer rows : List ℕ) (room budget : ℕ) (tb : Table) (vs : List Value) → verdict bs room ≡ done rows → reading bs ≡ done tb →
     values_in tb buffer ≡ done vs → ((x : ℕ) → Free tb x → HasWritten rows x (get_or vs x no_value)) →

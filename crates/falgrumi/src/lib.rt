@@ -1,4 +1,6 @@
-// The public library, for C and Rust.
+// The public library; falgrumi_c exports its functions to C and Rust.
+#![tactic(auto)]
+
 ghost use Rattle.std.specs.Prelude.{◌≡◌, length};
 ghost use Rattle.rules.specs.Values.{bit};
 ghost use Rattle.rules.specs.Tables.{table_of};

@@ -1,10 +1,14 @@
-// The listing of document 01: a table on standard input, whole, checked, with the type of each place.
+// The listing of document 01: a table on standard input, whole, checked, with the type of each place. A failed read or write ends it by
+// its error.
+#![tactic(auto)]
+
 ghost use Rattle.std.specs.Prelude.{◌&&◌, ◌≡◌, ◌≤◌, length, take};
 ghost use Rattle.rules.specs.Reading.{headed, limited};
 ghost use Rattle.listing.specs.Listing.{identifiers_of, places_of, listing_of};
 
 use checker::Checked;
-use libc::{STDIN_FILENO, STDOUT_FILENO};
+use std::io;
+use std::io::Write;
 
 // Refusals 1 and 2.
 fn has_counts(table: &[u8]) -> bool
@@ -50,11 +54,12 @@ fn list(table: &[u8], sheet: &mut [u8], out: &mut [u8]) -> usize
 }
 
 // No table has more than 8,416 bytes, so the length of a longer input is wrong however much of it is read.
-fn main() {
-    let mut input = io::large_buffer();
-    let n = io::read_full(STDIN_FILENO, &mut input);
-    let mut sheet = io::large_buffer();
+fn main(rt: HostRuntime) -> io::Result<()> {
+    let mut stdin = rt.stdin();
+    let mut input = [0u8; 65536];
+    let n = batch::next_bytes(&mut stdin, &mut input, 65536)?;
+    let mut sheet = [0u8; 65536];
     let mut out = [0u8; 131072];
     let length = list(&input[..n], &mut sheet, &mut out);
-    io::write_all(STDOUT_FILENO, &out[..length]);
+    rt.stdout().write_all(&out[..length])
 }
