@@ -1,4 +1,4 @@
-//! Links the static library that `rt staticlib falgrumi` writes.
+//! Links the static library that `tools/library` writes.
 
 use std::path::Path;
 
@@ -9,7 +9,7 @@ fn main() {
     println!("cargo:rerun-if-changed={}", library.display());
     if !library.is_file() {
         panic!(
-            "{} is missing: run `rt staticlib falgrumi` at the root of the repository",
+            "{} is missing: run `tools/library` at the root of the repository",
             library.display()
         );
     }

@@ -1,7 +1,7 @@
 /* Falgrumi: checks the types of a B condition, evaluates it, and merges sets that it is given. The code behind these functions
  * is proved to meet document 01, as document 02 changes it.
  *
- * Link target/staticlib/libfalgrumi.a, which `rt staticlib falgrumi` writes. examples/c/gate.c and bins.c are whole programs.
+ * Link target/staticlib/libfalgrumi.a, which `tools/library` writes. examples/c/gate.c and bins.c are whole programs.
  *
  * Pointers and lengths. Bytes are lent as a pointer and then their number. Every pointer must be valid and not NULL, for
  *   length 0 too (any object's address will do there: such a pointer is never read). `place`, `steps`, `comparisons` and
@@ -12,8 +12,9 @@
  * Threads. Nothing is kept between calls, and there is no shared state: calls may run at the same time, if no one writes
  *   what another reads or writes.
  * Stack. The functions allocate nothing and work on the caller's stack. The most that was measured (x86-64; tall tables over
- *   deeply nested values, deep types, and generated ones) is 53 KB for falgrumi_check, 191 KB for falgrumi_evaluate and 99 KB
- *   for falgrumi_merge. falgrumi_checked_evaluate takes what the larger of its calls takes. Lend 0.3 MB.
+ *   deeply nested values, deep types, and generated ones; with the kit before the port, see docs/PORT.md) is 53 KB for
+ *   falgrumi_check, 191 KB for falgrumi_evaluate and 99 KB for falgrumi_merge. falgrumi_checked_evaluate takes what the larger
+ *   of its calls takes. Lend 0.3 MB.
  * Bytes. A word is 4 bytes, least byte first. */
 #ifndef FALGRUMI_H
 #define FALGRUMI_H

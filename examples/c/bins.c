@@ -1,4 +1,4 @@
-/* Two groups of bins, merged. From the root of the repository, after `rt staticlib falgrumi`:
+/* Two groups of bins, merged. From the root of the repository, after `tools/library`:
  *
  *     cc -std=c99 -Iinclude examples/c/bins.c target/staticlib/libfalgrumi.a -o target/bins && target/bins
  *

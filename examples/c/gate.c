@@ -1,4 +1,4 @@
-/* A gate's condition, built in bytes, checked and evaluated. From the root of the repository, after `rt staticlib falgrumi`:
+/* A gate's condition, built in bytes, checked and evaluated. From the root of the repository, after `tools/library`:
  *
  *     cc -std=c99 -Iinclude examples/c/gate.c target/staticlib/libfalgrumi.a -o target/gate && target/gate
  *
