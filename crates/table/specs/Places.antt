@@ -1,8 +1,8 @@
 -- What a search among the places below a bound answers.
-use Rattle.std.specs.Prelude.{ℕ}
-use Rattle.std.proofs.Math.Option.{Option, none as nothing, some}
+use Rattle.std.specs.Prelude.{ℕ, Option, None, Some}
+use Rattle.std.proofs.Math.Option.{Option as Maybe, none as nothing, some}
 
--- A place found, or the number of places where there is none.
-abbrev pub found_or : ℕ → Option ℕ → ℕ
-found_or n nothing = n
-found_or n (some p) = p
+-- An answer of the code, in the terms of the rules.
+abbrev pub found_place : Option ℕ → Maybe ℕ
+found_place None = nothing
+found_place (Some p) = some p

@@ -1,19 +1,20 @@
-// A table's words and records, and refusals 1 to 6 of document 01.
+// A table's words and records, and refusals 1 to 6.
 #![tactic(auto)]
 
-ghost use Rattle.std.specs.Prelude.{◌≡◌, ◌&&◌, ◌+◌, ◌<◌, ◌≤◌, eqb, ltb, length, get_or};
+ghost use Rattle.std.specs.Prelude.{◌≡◌, ◌&&◌, ◌+◌, ◌<◌, ◌≤◌, ltb, length, get_or};
 ghost use Rattle.rules.specs.Kinds.{kind_of, is_child};
-ghost use Rattle.rules.specs.Tables.{word_at, table_of, node_at, field_words};
+ghost use Rattle.rules.specs.Tables.{word_at, table_of, node_at, kind_at, field_words};
 ghost use Rattle.rules.specs.Tables.{given_count, identifier_count, node_count, nodes_at};
 ghost use Rattle.rules.specs.Ends.{least_failing};
 ghost use Rattle.rules.specs.Readable.{Header};
-ghost use Rattle.rules.specs.Reading.{headed, limited, laid_out, size_good, bind_good, node_good, field_good};
-ghost use Rattle.table.specs.Codes.{field_of, row_of, DigitOf, category_code};
-ghost use Rattle.table.specs.Layout.{Laid, NodeIn, field_codes_at, holds_at, field_at, WordOf};
-ghost use Rattle.table.specs.Places.{found_or};
+ghost use Rattle.rules.specs.Reading.{headed, limited, laid_out, size_good, bind_good, category_is, node_good, field_good};
+ghost use Rattle.table.specs.Codes.{field_of, row_of, DigitHolds, DigitOf, HoldsOf, category_in_rules, category_if};
+ghost use Rattle.table.specs.Layout.{Laid, NodeIn, field_codes_at, FieldOf, FieldsOf, WordOf};
+ghost use Rattle.table.specs.Places.{found_place};
 
 // What the fields a, b and c of each kind code hold, a hexadecimal digit each: 0 nothing, 1 a predicate, 2 an expression,
 // 3 an identifier used, 4 an identifier bound, 5 a given set, 6 an element of that given set, 7 any word, 8 a truth.
+// The digits stay numbers (project rule: a constant table): it is made anew where it is read, so a kind is one word, read once a node.
 const FIELDS: [u16; 44] = [
     0x000, // 0 unknown
     0x110, // 1 ∧: a predicate, a predicate
@@ -61,55 +62,100 @@ const FIELDS: [u16; 44] = [
     0x200, // 43 choice: an expression
 ];
 
+// What a node stands for.
+#[derive(Clone, Copy, PartialEq, Eq, Debug)]
+pub enum NodeCategory {
+    Predicate,
+    Expression,
+}
+
+// What a field of a node holds, in the order of the digits: so no digit is looked up. (With one variant for a child of either
+// category, reading a table took two fifths more time.)
+#[derive(Clone, Copy, PartialEq, Eq, Debug)]
+pub enum Holds {
+    Nothing,
+    Predicate,
+    Expression,
+    IdentifierUsed,
+    IdentifierBound,
+    GivenSet,
+    Element,
+    AnyWord,
+    Truth,
+}
+
+impl Holds {
+    pub fn is_child(self) -> bool
+        ensures { result ≡ is_child (field_of self) }
+    {
+        matches!(self, Holds::Predicate | Holds::Expression)
+    }
+}
+
+// By the digit of a kind's row.
+impl From<u16> for Holds {
+    ghost from_gives = { DigitHolds };
+
+    fn from(digit: u16) -> Holds {
+        match digit {
+            1 => Holds::Predicate,
+            2 => Holds::Expression,
+            3 => Holds::IdentifierUsed,
+            4 => Holds::IdentifierBound,
+            5 => Holds::GivenSet,
+            6 => Holds::Element,
+            7 => Holds::AnyWord,
+            8 => Holds::Truth,
+            _ => Holds::Nothing,
+        }
+    }
+}
+
+// A field of a node: what it holds, by the node's kind, and its word.
+#[derive(Clone, Copy, PartialEq, Eq, Debug)]
+pub struct NodeField {
+    pub holds: Holds,
+    pub word: usize,
+}
+
+// The fields of a node.
+#[derive(Clone, Copy, PartialEq, Eq, Debug)]
+pub struct NodeFields {
+    pub a: NodeField,
+    pub b: NodeField,
+    pub c: NodeField,
+}
+
 // Where the header has the offset of the nodes.
 const NODES_AT: usize = 24;
-
-pub fn wide(x: u8) -> usize
-    ensures { (result ≡ x) × (result < 256) }
-{
-    x as usize
-}
 
 // The word at an offset.
 pub fn word(bytes: &[u8], at: usize) -> usize
     requires { at + 4 ≤ length bytes.now }
     ensures { (result ≡ word_at bytes.now at) × (result < 4294967296) }
 {
-    wide(bytes[at])
-        + 256 * wide(bytes[at + 1])
-        + 65536 * wide(bytes[at + 2])
-        + 16777216 * wide(bytes[at + 3])
-}
-
-// Both tests, as a value with no branch for the caller's proof.
-pub fn both(a: bool, b: bool) -> bool
-    ensures { result ≡ (a && b) }
-{
-    a && b
+    u32::from_le_bytes([bytes[at], bytes[at + 1], bytes[at + 2], bytes[at + 3]]) as usize
 }
 
 // Refusal 1.
+#[tactic(auto, unfolding(rules::specs::Reading::headed))]
 pub fn is_headed(table: &[u8]) -> bool
     ensures { result ≡ headed table.now }
 {
-    if table.len() < 32 {
-        return false;
-    }
-    word(table, 0) == 1
+    32 <= table.len() && word(table, 0) == 1
 }
 
 // Refusal 2.
+#[tactic(auto, unfolding(rules::specs::Reading::limited))]
 pub fn is_limited(table: &[u8]) -> bool
     requires { 32 ≤ length table.now }
     ensures { result ≡ limited table.now }
 {
-    let g = word(table, 4);
-    let i = word(table, 8);
-    let n = word(table, 12);
-    both(both(g <= 16, i <= 32), n <= 512)
+    word(table, 4) <= 16 && word(table, 8) <= 32 && word(table, 12) <= 512
 }
 
 // Refusal 3.
+#[tactic(auto, unfolding(rules::specs::Reading::laid_out))]
 pub fn is_laid_out(table: &[u8]) -> bool
     requires { 32 ≤ length table.now }
     ensures { result ≡ laid_out table.now }
@@ -117,9 +163,11 @@ pub fn is_laid_out(table: &[u8]) -> bool
     let identifiers_at = 32 + 4 * word(table, 4);
     let nodes_at = identifiers_at + 4 * word(table, 8);
     let end = nodes_at + 16 * word(table, 12);
-    let first = both(word(table, 16) == 32, word(table, 20) == identifiers_at);
-    let offsets = both(first, word(table, 24) == nodes_at);
-    both(both(offsets, word(table, 28) == end), table.len() == end)
+    word(table, 16) == 32
+        && word(table, 20) == identifiers_at
+        && word(table, NODES_AT) == nodes_at
+        && word(table, 28) == end
+        && table.len() == end
 }
 
 // G, I and N.
@@ -144,7 +192,8 @@ pub fn nodes(table: &[u8]) -> usize
     word(table, 12)
 }
 
-// The offset of the node records, which the functions below take as `at`.
+// The offset of the node records, which the functions below take as `at`. It stays an argument of its own: the public ones
+// keep their contracts, and the private ones only pass it on to these.
 pub fn nodes_offset(table: &[u8]) -> usize
     requires { 32 ≤ length table.now }
     ensures { result ≡ nodes_at table.now }
@@ -152,7 +201,8 @@ pub fn nodes_offset(table: &[u8]) -> usize
     32 + 4 * word(table, 4) + 4 * word(table, 8)
 }
 
-// The size of a given set, or 0 where there is none of that number.
+// The size of a given set, or 0 where there is none of that number: the rules' own default, which the
+// clause names (`get_or`), and below which no element is.
 pub fn size(table: &[u8], g: usize) -> usize
     requires { Header table.now }
     ensures { result ≡ get_or (table_of table.now).sizes g 0 }
@@ -163,7 +213,7 @@ pub fn size(table: &[u8], g: usize) -> usize
     word(table, 32 + 4 * g)
 }
 
-// An identifier's word: 0 free, 1 bound.
+// An identifier's word: 0 free, 1 bound. It stays a word: refusal 5 asks for any other.
 pub fn bind(table: &[u8], x: usize) -> usize
     requires { Header table.now × (x < identifier_count table.now) }
     ensures { WordOf table.now x result }
@@ -187,7 +237,8 @@ pub fn field(table: &[u8], at: usize, n: usize, i: usize) -> usize
     word(table, at + 16 * n + 4 + 4 * i)
 }
 
-// The same for a table whose header is right: the offset of the nodes stands in it, at byte 24.
+// The same for a table whose header is right: the offset of the nodes stands in it, at byte 24. Both pairs are public, so both
+// stay; docs/DECISIONS.md says why there are two.
 pub fn node_kind(table: &[u8], n: usize) -> usize
     requires { NodeIn table.now (nodes_at table.now) n }
     ensures { result ≡ (node_at (table_of table.now).nodes n).kind }
@@ -202,18 +253,18 @@ pub fn node_field(table: &[u8], n: usize, i: usize) -> usize
     field(table, word(table, NODES_AT), n, i)
 }
 
-// The category of a kind code: 1 predicate, 2 expression, 0 where it is unknown.
-pub fn category(kind: usize) -> u8
-    ensures { result ≡ category_code (kind_of kind) }
+// The category of a kind code, if it is known. Kinds stay numbers here and above (project rule: decisions by match on their codes and ranges).
+pub fn category(kind: usize) -> Option<NodeCategory>
+    ensures { result ≡ category_if (kind_of kind) }
 {
     match kind {
-        1..=11 => 1,
-        20..=43 => 2,
-        _ => 0,
+        1..=11 => Some(NodeCategory::Predicate),
+        20..=43 => Some(NodeCategory::Expression),
+        _ => None,
     }
 }
 
-// The row of a kind in the table; 0 where the kind is unknown.
+// The row of a kind in the table; 0 where the kind is unknown, as rows of unused fields are (`row_of` of its clause).
 fn field_codes(kind: usize) -> u16
     ensures { result ≡ row_of (kind_of kind) }
 {
@@ -223,59 +274,74 @@ fn field_codes(kind: usize) -> u16
     FIELDS[kind]
 }
 
-// The code of what field i holds, from the row of a kind.
-pub fn digit(row: u16, i: usize) -> u8
+// The digit of field i in the row of a kind.
+fn digit(row: u16, i: usize) -> u16
     requires { i < 3 }
     ensures { DigitOf row i result }
 {
     match i {
-        0 => (row / 256) as u8,
-        1 => (row / 16 % 16) as u8,
-        _ => (row % 16) as u8,
+        0 => row / 256,
+        1 => row / 16 % 16,
+        _ => row % 16,
     }
 }
 
-// The row of a node's kind. A constant table is made anew where it is read, so a node's row is read once.
-pub fn node_row(table: &[u8], at: usize, n: usize) -> u16
-    requires { NodeIn table.now at n }
-    ensures { result ≡ field_codes_at table.now n }
+// What field i holds, by the row of a kind.
+pub fn field_holds(row: u16, i: usize) -> Holds
+    requires { i < 3 }
+    ensures { HoldsOf row i result }
 {
-    field_codes(kind(table, at, n))
+    Holds::from(digit(row, i))
+}
+
+// Field i of node n, whose kind has the row.
+fn field_by_row(table: &[u8], at: usize, n: usize, row: u16, i: usize) -> NodeField
+    requires { NodeIn table.now at n × (i < 3) × (row ≡ field_codes_at table.now n) }
+    ensures { FieldOf table.now n i result }
+{
+    NodeField {
+        holds: field_holds(row, i),
+        word: field(table, at, n, i),
+    }
+}
+
+// The fields of a node. A constant table is made anew where it is read, so the row of the node's kind is read once.
+pub fn node_fields(table: &[u8], at: usize, n: usize) -> NodeFields
+    requires { NodeIn table.now at n }
+    ensures { FieldsOf table.now n result }
+{
+    let row = field_codes(kind(table, at, n));
+    NodeFields {
+        a: field_by_row(table, at, n, row, 0),
+        b: field_by_row(table, at, n, row, 1),
+        c: field_by_row(table, at, n, row, 2),
+    }
 }
 
 // Whether x is a node below n of a category.
-fn is_child(table: &[u8], at: usize, n: usize, x: usize, code: u8) -> bool
+fn is_child(table: &[u8], at: usize, n: usize, x: usize, c: NodeCategory) -> bool
     requires { NodeIn table.now at n }
-    ensures { result ≡ (ltb x n && eqb (category_code (kind_of (node_at (table_of table.now).nodes x).kind)) code) }
+    ensures { result ≡ (ltb x n && category_is (category_in_rules c) (kind_at (table_of table.now).nodes x)) }
 {
-    if n <= x {
-        return false;
-    }
-    category(kind(table, at, x)) == code
+    x < n && category(kind(table, at, x)) == Some(c)
 }
 
-// Whether a field of node n that has the code holds x rightly.
-fn field_is_good(table: &[u8], at: usize, n: usize, code: u8, x: usize) -> bool
+// Whether the word of a field of node n is right.
+fn field_is_good(table: &[u8], at: usize, n: usize, here: NodeField) -> bool
     requires { NodeIn table.now at n }
-    ensures { result ≡ field_good (table_of table.now) n (field_of code) x }
+    ensures { result ≡ field_good (table_of table.now) n (field_of here.holds) here.word }
 {
-    match code {
-        1 | 2 => is_child(table, at, n, x, code),
-        3 | 4 => x < identifiers(table),
-        5 => x < givens(table),
-        6 => x < size(table, field(table, at, n, 0)),
-        7 => true,
-        8 => x < 2,
-        _ => x == 0,
+    let x = here.word;
+    match here.holds {
+        Holds::Nothing => x == 0,
+        Holds::Predicate => is_child(table, at, n, x, NodeCategory::Predicate),
+        Holds::Expression => is_child(table, at, n, x, NodeCategory::Expression),
+        Holds::IdentifierUsed | Holds::IdentifierBound => x < identifiers(table),
+        Holds::GivenSet => x < givens(table),
+        Holds::Element => x < size(table, field(table, at, n, 0)),
+        Holds::AnyWord => true,
+        Holds::Truth => x < 2,
     }
-}
-
-// Whether field i of node n, whose kind has the row, holds its word rightly.
-fn field_at_is_good(table: &[u8], at: usize, n: usize, row: u16, i: usize) -> bool
-    requires { NodeIn table.now at n × (i < 3) × (row ≡ field_codes_at table.now n) }
-    ensures { result ≡ field_good (table_of table.now) n (holds_at table.now n i) (field_at table.now n i) }
-{
-    field_is_good(table, at, n, digit(row, i), field(table, at, n, i))
 }
 
 // Refusal 6 at one node.
@@ -283,69 +349,35 @@ fn node_is_good(table: &[u8], at: usize, n: usize) -> bool
     requires { NodeIn table.now at n }
     ensures { result ≡ node_good (table_of table.now) n }
 {
-    let k = kind(table, at, n);
-    if category(k) == 0 {
+    if category(kind(table, at, n)).is_none() {
         return false;
     }
-    let row = field_codes(k);
-    let a = field_at_is_good(table, at, n, row, 0);
-    let b = field_at_is_good(table, at, n, row, 1);
-    let c = field_at_is_good(table, at, n, row, 2);
-    both(both(a, b), c)
+    let fields = node_fields(table, at, n);
+    field_is_good(table, at, n, fields.a)
+        && field_is_good(table, at, n, fields.b)
+        && field_is_good(table, at, n, fields.c)
 }
 
-// Refusal 4: the least given set of a wrong size, or G.
-pub fn first_bad_size(table: &[u8]) -> usize
+// Refusal 4: the least given set of a wrong size.
+pub fn first_bad_size(table: &[u8]) -> Option<usize>
     requires { Header table.now }
-    ensures { result ≡ found_or (given_count table.now) (least_failing (size_good (table_of table.now)) 0 (given_count table.now)) }
+    ensures { found_place result ≡ least_failing (size_good (table_of table.now)) 0 (given_count table.now) }
 {
-    let count = givens(table);
-    let mut g: usize = 0;
-    while g < count {
-        let s = size(table, g);
-        if !both(1 <= s, s <= 32) {
-            return g;
-        }
-        g += 1;
-    }
-    count
+    (0..givens(table)).find(|g| !matches!(size(table, *g), 1..=32))
 }
 
-// Refusal 5: the least identifier whose word is neither 0 nor 1, or I.
-pub fn first_bad_bind(table: &[u8]) -> usize
+// Refusal 5: the least identifier whose word is neither 0 nor 1.
+pub fn first_bad_bind(table: &[u8]) -> Option<usize>
     requires { Header table.now }
-    ensures { result ≡ found_or (identifier_count table.now) (least_failing (bind_good (table_of table.now)) 0 (identifier_count table.now)) }
+    ensures { found_place result ≡ least_failing (bind_good (table_of table.now)) 0 (identifier_count table.now) }
 {
-    let count = identifiers(table);
-    let mut x: usize = 0;
-    while x < count {
-        if 1 < bind(table, x) {
-            return x;
-        }
-        x += 1;
-    }
-    count
+    (0..identifiers(table)).find(|x| 1 < bind(table, *x))
 }
 
-// Refusal 6: the least node with a fault, or N.
-pub fn first_bad_node(table: &[u8], at: usize) -> usize
+// Refusal 6: the least node with a fault.
+pub fn first_bad_node(table: &[u8], at: usize) -> Option<usize>
     requires { Laid table.now at }
-    ensures { result ≡ found_or (node_count table.now) (least_failing (node_good (table_of table.now)) 0 (node_count table.now)) }
+    ensures { found_place result ≡ least_failing (node_good (table_of table.now)) 0 (node_count table.now) }
 {
-    let count = nodes(table);
-    let mut n: usize = 0;
-    while n < count {
-        if !node_is_good(table, at, n) {
-            return n;
-        }
-        n += 1;
-    }
-    count
-}
-
-// Whether a field with the code holds a child.
-pub fn holds_child(code: u8) -> bool
-    ensures { result ≡ is_child (field_of code) }
-{
-    code == 1 || code == 2
+    (0..nodes(table)).find(|n| !node_is_good(table, at, *n))
 }

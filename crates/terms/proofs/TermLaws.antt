@@ -7,6 +7,9 @@ use lib.ListN.{get_or}
 use Rattle.unification.specs.Problem.{Shape, shape_of}
 use Rattle.terms.specs.Words.{known, link, word_form, word_left, word_right, term_from, term_of}
 use Rattle.terms.specs.Terms.{TermBelow, Terms, class_in}
+use Rattle.terms.specs.Decoding.{TermIs}
+use Rattle.terms.specs.declared.Term.{Term}
+use Rattle.terms.specs.declared.Term.TheVariants.{Open, Atom, Power, Product, Link}
 
 -- The shape of a word that holds one.
 abbrev pub shape_in : ℕ → Shape
@@ -27,6 +30,14 @@ pub term_link : (w : ℕ) → word_form w ≡ 4 → term_of w ≡ link (word_rig
 unfolding term_of
 term_link w e = rw e refl
 
+-- A word that is no link has a shape.
+pub not_link : (w : ℕ) (t : Term) → TermIs w t → ((u : ℕ) → t ≡ Link u → ⊥) → word_form w ≤ 3
+not_link w Open f h = omega arith
+not_link w (Atom c) f h = omega arith
+not_link w (Power v) f h = omega arith
+not_link w (Product v u) f h = omega arith
+not_link w (Link u) f h = absurd (h u refl)
+
 -- The class of v, whose word is w.
 module _ {n : ℕ} {ts : List ℕ} (t : Terms n ts) {v w : ℕ} (h : v < n) (e : w ≡ get_or ts v 0) where
   word_is : term_of (get_or ts v 0) ≡ term_of w
@@ -44,3 +55,6 @@ module _ {n : ℕ} {ts : List ℕ} (t : Terms n ts) {v w : ℕ} (h : v < n) (e :
 
   pub form_known : (word_form w ≡ 4 → ⊥) → word_form w ≤ 3
   form_known f = omega (arith, f, subst (λ x. word_form x ≤ 4) (sym e) (t.each v h).form)
+
+  pub form_link : 4 ≤ word_form w → word_form w ≡ 4
+  form_link f = omega (arith, f, subst (λ x. word_form x ≤ 4) (sym e) (t.each v h).form)

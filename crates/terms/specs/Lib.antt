@@ -2,3 +2,5 @@
 pub mod Words
 pub mod Terms
 pub mod Decided
+pub mod Decoding
+pub mod Stacks

@@ -1,12 +1,9 @@
--- One case for each code, as in `field_good`.
-use native.Mathlib.Omega.{arith}
+-- The counts with which the code compares are the lengths in `field_good`.
 use Rattle.table.proofs.Fields.{good_given, good_identifier}
 use Rattle.table.proofs.field_is_good.Goals as goal
 
-pub returns-in-5 : goal.returns-in-5
-returns-in-5 c = let s = c.args in good_given s.table.now s.n s.x s.code _ c.in-5.is c.givens.ensures
+pub returns-in-IdentifierUsed : goal.returns-in-IdentifierUsed
+returns-in-IdentifierUsed c = let s = c.args in good_identifier s.table.now s.n s.here.word _ s.here.holds c.in-IdentifierUsed.is c.identifiers.ensures
 
-pub returns-in-3 : goal.returns-in-3
-returns-in-3 c =
-    let s = c.args in
-    good_identifier s.table.now s.n s.x s.code _ (omega arith) (omega arith) c.identifiers.ensures
+pub returns-in-GivenSet : goal.returns-in-GivenSet
+returns-in-GivenSet c = let s = c.args in good_given s.table.now s.n s.here.word _ s.here.holds c.in-GivenSet.is c.givens.ensures

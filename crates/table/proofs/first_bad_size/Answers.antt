@@ -1,21 +1,13 @@
--- The invariant: each given set passed has a right size. Landmark: what was lent.
-use Prim.Native.Nat.{◌<◌}
-use Rattle.rules.specs.Tables.{given_count}
-use Rattle.table.proofs.Least.{least_turn, least_here, least_none, fails, passes, below}
-use Rattle.table.proofs.Fields.{size_read}
+-- The closure fails the test of the rules.
+use borrow.Author.Tests.{tests}
+use Rattle.std.proofs.Common.{rules}
+use Rattle.rules.specs.Tables.{table_of}
+use Rattle.rules.specs.Reading.{size_good}
+use Rattle.table.proofs.Least.{finds_least}
 use Rattle.table.proofs.first_bad_size.Goals as goal
 
-pub returns-then-not-both : goal.returns-then-not-both
-returns-then-not-both c =
-    let inside : c.loop-g.g < given_count c.args.table.now = below c.loop-g-test.true c.givens-count.ensures in
-    least_here _ _ _ c.loop-g.invariant inside
-    (fails (size_read _ _ _ _ c.size-s.ensures c.both.ensures) c.if-not-both.true)
-
-pub loop-g-preserved : goal.loop-g-preserved
-loop-g-preserved c =
-    let inside : c.loop-g.g < given_count c.args.table.now = below c.loop-g-test.true c.givens-count.ensures in
-    least_turn _ _ _ c.loop-g.invariant inside
-    (passes (size_read _ _ _ _ c.size-s.ensures c.both.ensures) c.if-not-both.false)
-
 pub returns : goal.returns
-returns c = least_none _ _ _ c.loop-g.invariant c.loop-g-test.false c.givens-count.ensures
+unfolding size_good
+returns c =
+    finds_least (size_good (table_of c.args.table.now)) _ _ _ _ c.givens.ensures c.find.ensures.ran
+    (λ x q k. search (rules, tests)) (λ x q k. search (rules, tests))

@@ -4,4 +4,4 @@ use Rattle.terms.proofs.WordLaws.{atom_word}
 use Rattle.terms.proofs.atom.Goals as goal
 
 pub returns : goal.returns
-returns c = atom_word (omega (arith, c.narrow.ensures)) c.requires.0 c.requires.1
+returns c = atom_word (omega arith) c.requires.0 c.requires.1

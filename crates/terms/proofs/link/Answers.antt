@@ -4,4 +4,4 @@ use Rattle.terms.proofs.WordLaws.{link_word}
 use Rattle.terms.proofs.link.Goals as goal
 
 pub returns : goal.returns
-returns c = link_word (omega (arith, c.narrow.ensures)) c.requires
+returns c = link_word (omega arith) c.requires

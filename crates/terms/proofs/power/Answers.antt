@@ -4,4 +4,4 @@ use Rattle.terms.proofs.WordLaws.{power_word}
 use Rattle.terms.proofs.power.Goals as goal
 
 pub returns : goal.returns
-returns c = power_word (omega (arith, c.narrow.ensures)) c.requires
+returns c = power_word (omega arith) c.requires

@@ -4,4 +4,4 @@ use Rattle.terms.proofs.WordLaws.{product_word}
 use Rattle.terms.proofs.product.Goals as goal
 
 pub returns : goal.returns
-returns c = product_word (omega (arith, c.narrow-2.ensures, c.narrow.ensures)) c.requires.0 c.requires.1
+returns c = product_word (omega arith) c.requires.0 c.requires.1

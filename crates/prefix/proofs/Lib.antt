@@ -1,0 +1,2 @@
+-- Laws of forms in prefix order.
+pub mod FormLaws

@@ -1,0 +1,2 @@
+-- Forms in prefix order.
+pub mod Forms
