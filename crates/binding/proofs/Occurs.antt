@@ -12,21 +12,21 @@ use lib.Bits.{bit_and, bit_or}
 use lib.Dec.{eqb, leb}
 use lib.ListN.{length, get_or, set, take}
 use lib.Seq.{get_or-set_same, get_or-set_other, take_all}
-use borrow.Author.Tests.{eq-eqb, ne_eqb, le-leb}
+use borrow.Author.Tests.{ne_eqb, le-leb}
 use Rattle.rules.specs.Kinds.{Kind, kind_of, predicate, expression, is_child, is_binder}
 use Rattle.rules.specs.Kinds.{Field, unused, child, use_of, binder_of, set_number, element_number, any_word, truth_bit}
 use Rattle.rules.specs.Tables.{Node, table_of, node_at, fields_at, fields_if, field_words, kept_if, pick, held, held_in, of_root, last_node, node_count}
 use Rattle.rules.specs.Reading.{occurrences, occurs_in, occurs_in_any, binds_here, occurs_step, occurs_free, occurs_in_root, bound_right, binders, binding}
-use Rattle.rules.specs.Readable.{FieldRight}
-use Rattle.laws.proofs.TableLaws.{nodes_length, binds_length, occurs_free_at}
+use Rattle.laws.proofs.TableLaws.{nodes_length, occurs_free_at}
+use Rattle.table.specs.declared.Holds.{Holds}
+use Rattle.table.specs.declared.Holds.TheVariants.{Nothing, Predicate, Expression, IdentifierUsed, IdentifierBound, GivenSet, Element, AnyWord, Truth}
 use Rattle.table.specs.Codes.{field_of}
-use Rattle.table.specs.Layout.{Fielded, holds_at, field_at, WordOf}
-use Rattle.table.proofs.Access.{by_code, field_far, binder_code}
+use Rattle.table.specs.Layout.{FieldOf, Fielded, holds_at, field_at, WordOf}
 use Rattle.table.proofs.Fields.{by_fields}
 use Rattle.binding.specs.declared.Names.{Names}
-use Rattle.trees.specs.Arrays.{FieldIn}
+use Rattle.table.specs.declared.NodeField.{NodeField}
 use Rattle.binding.specs.Words.{has_bit, WordIs, free_in, BoundAt, Named}
-use Rattle.trees.proofs.Counting.{field_held, child_at_law, occurrences_more}
+use Rattle.trees.proofs.Counting.{child_at_law, occurrences_more}
 use Rattle.binding.proofs.Words.{bit_or_law, bit_and_law, bit_none}
 
 -- How often a node binds x: once or not at all, by its first field.
@@ -54,16 +54,27 @@ binds_first d x = ap (leb 1) (binders_first d x) ∙ some_once (is_binder (get_o
 binders_here : (d : Node) (x : ℕ) → occurrences x (held is_binder d) ≡ cond (binds_here x d) 1 0
 binders_here d x = rw (binds_first d x) (binders_first d x)
 
--- The word of what a node binds, by the code of its first field.
-module _ (bs : List ℕ) (n c : ℕ) (code : field_of c ≡ holds_at bs n 0) where
-  first_code : is_binder (holds_at bs n 0) ≡ eqb c 4
-  first_code = ap is_binder (sym code) ∙ sym (binder_code c)
+-- The word of what a node binds, by what its first field holds.
+not_binder : (h : Holds) → (h ≡ IdentifierBound → ⊥) → is_binder (field_of h) ≡ false
+not_binder Nothing n = refl
+not_binder Predicate n = refl
+not_binder Expression n = refl
+not_binder IdentifierUsed n = refl
+not_binder IdentifierBound n = absurd (n refl)
+not_binder GivenSet n = refl
+not_binder Element n = refl
+not_binder AnyWord n = refl
+not_binder Truth n = refl
 
-  pub binds_one : (y w : ℕ) → y ≡ field_at bs n 0 → c ≡ 4 → WordIs (λ x. eqb x y) w → BoundAt bs n w
-  binds_one y w word e h x = rw (binds_first (node_at (table_of bs).nodes n) x, first_code, eq-eqb c 4 e, ← word) (h x)
+pub bound_one : {h : Holds} (y w : ℕ) → h ≡ IdentifierBound → WordIs (λ x. eqb x y) w → WordIs (λ x. is_binder (field_of h) && eqb x y) w
+bound_one y w e is x = is x ∙ sym (ap (λ k. is_binder (field_of k) && eqb x y) e)
 
-  pub binds_none : (c ≡ 4 → ⊥) → BoundAt bs n 0
-  binds_none e x = rw (binds_first (node_at (table_of bs).nodes n) x, first_code, ne_eqb c 4 e) (bit_none x)
+pub bound_none : (h : Holds) (y : ℕ) → (h ≡ IdentifierBound → ⊥) → WordIs (λ x. is_binder (field_of h) && eqb x y) 0
+bound_none h y n x = rw (not_binder h n) (bit_none x)
+
+pub bound_here : {bs : List ℕ} {n : ℕ} {f : NodeField} (w : ℕ) → FieldOf bs n 0 f →
+    WordIs (λ x. is_binder (field_of f.holds) && eqb x f.word) w → BoundAt bs n w
+bound_here {bs} {n} w h is x = is x ∙ ap₂ (λ k y. is_binder k && eqb x y) h.holds h.word ∙ sym (binds_first (node_at (table_of bs).nodes n) x)
 
 or_three : (p q r : Bool) → (p || (q || (r || false))) ≡ ((p || q) || r)
 or_three true q r = refl
@@ -96,13 +107,6 @@ names_three bs names n here a b c binds p q r x =
     rw (bit_or_law (bit_or a b) c x, bit_or_law a b x, p x, q x, r x, binds x)
     (any_three x (binds_here x d) (free_in names x) (kind_of d.kind) d.a d.b d.c)
 
--- A field that names an identifier holds a word below 32.
-pub name_inside : (bs : List ℕ) (at n i y : ℕ) (f : Field) → FieldIn bs at n i → f ≡ holds_at bs n i → (f ≡ unused → ⊥) →
-    ((x : ℕ) → FieldRight (table_of bs) n f x → x < length (table_of bs).binds) → y ≡ field_at bs n i → y < 32
-name_inside bs at n i y f r code used names word =
-    let held = field_held bs at n i r.fielded r.below (λ e. used (code ∙ e)) in
-    omega (arith, binds_length bs, r.fielded.laid.header.identifiers, names (field_at bs n i) (rw (← code) at held))
-
 -- Free occurrence in a node asks only for the node's children.
 occurs_in_same : (x : ℕ) (b : Bool) (h k : ℕ → Bool) (f : Field) (y : ℕ) → (is_child f ≡ true → h y ≡ k y) → occurs_in x b h f y ≡ occurs_in x b k f y
 occurs_in_same x b h k unused y e = refl
@@ -123,20 +127,25 @@ occurs_in_any_same x b h k (f ∷ fs) (y ∷ ys) e =
     ap₂ ◌||◌ (occurs_in_same x b h k f y (e 0)) (occurs_in_any_same x b h k fs ys (λ i. e (suc i)))
 
 -- The fields in which no identifier occurs free.
-occurs_none : (x : ℕ) (b : Bool) (occ : ℕ → Bool) (y c : ℕ) → (c ≡ 1 → ⊥) → (c ≡ 2 → ⊥) → (c ≡ 3 → ⊥) → false ≡ occurs_in x b occ (field_of c) y
-occurs_none x b occ y =
-    by_code (λ c. (c ≡ 1 → ⊥) → (c ≡ 2 → ⊥) → (c ≡ 3 → ⊥) → false ≡ occurs_in x b occ (field_of c) y)
-    (λ p q r. refl) (λ p q r. absurd (p refl)) (λ p q r. absurd (q refl)) (λ p q r. absurd (r refl))
-    (λ p q r. refl) (λ p q r. refl) (λ p q r. refl) (λ p q r. refl) (λ p q r. refl)
-    (λ c h p q r. rw (field_far c h))
+occurs_none : (x : ℕ) (b : Bool) (occ : ℕ → Bool) (y : ℕ) (h : Holds) → (h ≡ Predicate → ⊥) → (h ≡ Expression → ⊥) → (h ≡ IdentifierUsed → ⊥) →
+    false ≡ occurs_in x b occ (field_of h) y
+occurs_none x b occ y Nothing k m n = refl
+occurs_none x b occ y Predicate k m n = absurd (k refl)
+occurs_none x b occ y Expression k m n = absurd (m refl)
+occurs_none x b occ y IdentifierUsed k m n = absurd (n refl)
+occurs_none x b occ y IdentifierBound k m n = refl
+occurs_none x b occ y GivenSet k m n = refl
+occurs_none x b occ y Element k m n = refl
+occurs_none x b occ y AnyWord k m n = refl
+occurs_none x b occ y Truth k m n = refl
 
--- What a field makes occur free, by its code and its word.
-module _ (bs names : List ℕ) (here n i c y : ℕ) (code : field_of c ≡ holds_at bs n i) (word : y ≡ field_at bs n i) where
-  pub names_coded : (w k : ℕ) → c ≡ k → WordIs (λ x. occurs_in x (has_bit here x) (free_in names x) (field_of k) y) w → FieldNames bs names here n i w
-  names_coded w k e h x = rw (← code, ← word, e) (h x)
+pub names_none : (names : List ℕ) (here y : ℕ) (h : Holds) → (h ≡ Predicate → ⊥) → (h ≡ Expression → ⊥) → (h ≡ IdentifierUsed → ⊥) →
+    WordIs (λ x. occurs_in x (has_bit here x) (free_in names x) (field_of h) y) 0
+names_none names here y h o p q x = bit_none x ∙ occurs_none x (has_bit here x) (free_in names x) y h o p q
 
-  pub names_none : (c ≡ 1 → ⊥) → (c ≡ 2 → ⊥) → (c ≡ 3 → ⊥) → FieldNames bs names here n i 0
-  names_none p q r x = rw (← code, ← word) (bit_none x ∙ occurs_none x (has_bit here x) (free_in names x) y c p q r)
+pub names_here : {bs : List ℕ} (names : List ℕ) (here : ℕ) {n i : ℕ} (w : ℕ) {f : NodeField} → FieldOf bs n i f →
+    WordIs (λ x. occurs_in x (has_bit here x) (free_in names x) (field_of f.holds) f.word) w → FieldNames bs names here n i w
+names_here names here w h is x = is x ∙ ap₂ (occurs_in x (has_bit here x) (free_in names x)) h.holds h.word
 
 -- What is said of the last of n nodes; false where there are none.
 abbrev of_last : ℕ → (ℕ → Bool) → Bool

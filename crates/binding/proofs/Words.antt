@@ -1,11 +1,18 @@
--- The bits of a word: of a word with another, of what both have, of one without the other, and of a power of 2.
+-- The bits of a word: of a word with another, of what both have, of one without the other (a meet with the complement), and of a power of 2.
 -- A shift passes through the operations, and the last bit of each is decided by those of its operands.
 use Prim.Native.Nat.{ℕ, zero, suc, ◌*◌, ◌/◌, ◌%◌, ◌^◌, ◌<◌, min, max}
 use mathlib.Core.Bool.{Bool, false, not, ◌&&◌, ◌||◌}
 use mathlib.Core.Path.{◌≡◌, refl, sym, ap, ◌∙◌}
 use native.Mathlib.Omega.{arith}
 use native.Mathlib.Nat.{div-eq_of_lt, div-div-eq-div-mul, zero-div, zero-lt-suc, pow-suc, pow-succ'}
-use lib.Bits.{bit_and, bit_or, bit_xor, differ, and_step, or_step, xor_step, and_shr, or_shr, xor_shr}
+use lib.Bits.{bit_and, bit_or, and_step, or_step, and_shr, or_shr}
+use mathlib.Core.Logic.{⊎_elim}
+use native.Mathlib.Nat.{lt_of_lt_of_le}
+use Prim.Native.Nat.{◌-◌}
+use Rattle.std.specs.Int.{w32}
+use Rattle.std.proofs.Math.Nat.{pow-le-pow_right}
+use Rattle.std.proofs.lemmas.Bool.{cases_lt}
+use Rattle.std.proofs.lemmas.Nat.Bits.{bit_at_not}
 use lib.Dec.{eqb, eqb-zero-suc, eqb-suc-zero, eqb-suc-suc}
 use lib.Pow.{pow-lt, shl_exact}
 use Rattle.binding.specs.Words.{has_bit, WordIs}
@@ -34,17 +41,18 @@ last_and a b =
     let e : bit_and a b % 2 ≡ min (a % 2) (b % 2) = omega (arith, and_step a b) in
     ap one e ∙ by_digits (λ c d. one (min c d) ≡ (one c && one d)) refl refl refl refl (a % 2) (b % 2) (omega arith) (omega arith)
 
-small_differ : (a b : ℕ) → a < 2 → b < 2 → differ a b < 2
-small_differ = by_digits (λ a b. differ a b < 2) (omega arith) (omega arith) (omega arith) (omega arith)
+last_without : (a b c : ℕ) → c % 2 ≡ 1 - b % 2 → one (bit_and a c % 2) ≡ (not (one (b % 2)) && one (a % 2))
+last_without a b c h =
+    let e : bit_and a c % 2 ≡ min (a % 2) (1 - b % 2) = omega (arith, h, and_step a c) in
+    ap one e ∙ by_digits (λ d k. one (min d (1 - k)) ≡ (not (one k) && one d)) refl refl refl refl (a % 2) (b % 2) (omega arith) (omega arith)
 
-last_xor : (a b : ℕ) → bit_xor a b % 2 ≡ differ (a % 2) (b % 2)
-last_xor a b = omega (arith, xor_step a b, small_differ (a % 2) (b % 2) (omega arith) (omega arith))
-
-last_without : (a b : ℕ) → one (bit_xor a (bit_and a b) % 2) ≡ (not (one (b % 2)) && one (a % 2))
-last_without a b =
-    let e : bit_and a b % 2 ≡ min (a % 2) (b % 2) = omega (arith, and_step a b) in
-    ap one (last_xor a (bit_and a b) ∙ ap (differ (a % 2)) e)
-    ∙ by_digits (λ c d. one (differ c (min c d)) ≡ (not (one d) && one c)) refl refl refl refl (a % 2) (b % 2) (omega arith) (omega arith)
+-- Above the bits of a word there are none.
+last_none : (a b c : ℕ) → a ≡ 0 → one (bit_and a c % 2) ≡ (not (one (b % 2)) && one (a % 2))
+last_none a b c h =
+    let e : bit_and a c % 2 ≡ 0 = omega (arith, h, and_step a c) in
+    ap one e
+    ∙ by_digits (λ d k. d ≡ 0 → false ≡ (not (one k) && one d)) (λ q. refl) (λ q. refl)
+    (λ q. absurd (omega (arith, q))) (λ q. absurd (omega (arith, q))) (a % 2) (b % 2) (omega arith) (omega arith) (omega (arith, h))
 
 module _ (a b x : ℕ) where
   pub bit_or_law : has_bit (bit_or a b) x ≡ (has_bit a x || has_bit b x)
@@ -55,9 +63,15 @@ module _ (a b x : ℕ) where
   unfolding has_bit
   bit_and_law = rw (and_shr a b x) (last_and (a / 2 ^ x) (b / 2 ^ x))
 
-  pub bit_without : has_bit (bit_xor a (bit_and a b)) x ≡ (not (has_bit b x) && has_bit a x)
-  unfolding has_bit
-  bit_without = rw (xor_shr a (bit_and a b) x, and_shr a b x) (last_without (a / 2 ^ x) (b / 2 ^ x))
+-- Of one word without another, by the complement.
+pub bit_without : (a b : ℕ) → a < 2 ^ 32 → b < 2 ^ 32 → (x : ℕ) → has_bit (bit_and a (4294967295 - b)) x ≡ (not (has_bit b x) && has_bit a x)
+unfolding has_bit
+bit_without a b h k x =
+    rw (and_shr a (4294967295 - b) x) (
+    ⊎_elim (λ l. last_without (a / 2 ^ x) (b / 2 ^ x) ((4294967295 - b) / 2 ^ x) (bit_at_not w32 b x k l))
+    (λ l. last_none (a / 2 ^ x) (b / 2 ^ x) ((4294967295 - b) / 2 ^ x) (div-eq_of_lt (lt_of_lt_of_le h (pow-le-pow_right (omega arith) l))))
+    (cases_lt x 32)
+    )
 
 pub bit_none : (x : ℕ) → has_bit 0 x ≡ false
 unfolding has_bit

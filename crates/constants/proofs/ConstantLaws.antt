@@ -124,12 +124,6 @@ module _ (bs : List ℕ) (r : Readable bs) (n : ℕ) (lt : n < node_count bs) (b
       cell_scalar c q bool_set ρ e o = absurd o
 
 -- The pass over the nodes.
-pub none_put : (bs s : List ℕ) → Constants bs 0 s
-none_put bs s n j ρ l e o = absurd (omega arith)
-
-pub only_none : (i : ℕ) (s : List ℕ) → OnlyBelow i s s
-only_none i s = record { same = λ k l. refl; kept = refl }
-
 pub only_more : (i n x : ℕ) (s s' : List ℕ) → n < i → OnlyBelow i s s' → OnlyBelow i s (set s' n x)
 only_more i n x s s' l h = record {
   same = λ k p. get_or-set_other s' n k x 0 (λ e. omega arith) ∙ h.same k p;

@@ -9,6 +9,8 @@ ghost use Rattle.constants.specs.Leaves.{Narrow, scalar_cell};
 ghost use Rattle.constants.specs.Built.{built, DecidesBuilds};
 ghost use Rattle.constants.specs.Constants.{CellOf, Constants, OnlyBelow};
 
+// By the codes of kinds (project rule).
+
 // The cell of an element (22), an integer (23) or a truth (24). An integer's word is in two's complement, its cell in excess form.
 fn scalar_cell(kind: usize, a: u64, b: u64) -> u64
     requires { Narrow kind a b }
@@ -21,24 +23,21 @@ fn scalar_cell(kind: usize, a: u64, b: u64) -> u64
     }
 }
 
-// The cell of the constant at node n: kinds 22 to 24 and 26. Another node has 0.
+// The cell of the constant at node n: kinds 22 to 24 and 26. Another node has 0, and no Option, since each node's cell is written.
 fn constant_cell(table: &[u8], at: usize, n: usize) -> u64
     requires { Readable table.now × (at ≡ nodes_at table.now) × (n < node_count table.now) }
     ensures { CellOf table.now n result }
 {
     let kind = table::kind(table, at, n);
-    if kind == 26 {
-        return arena::SET;
+    match kind {
+        22..=24 => {
+            let a = table::field(table, at, n, 0);
+            let b = table::field(table, at, n, 1);
+            scalar_cell(kind, a as u64, b as u64)
+        }
+        26 => arena::SET,
+        _ => 0,
     }
-    if kind < 22 {
-        return 0;
-    }
-    if kind > 24 {
-        return 0;
-    }
-    let a = table::field(table, at, n, 0);
-    let b = table::field(table, at, n, 1);
-    scalar_cell(kind, a as u64, b as u64)
 }
 
 // Puts each constant into the cell of its node.
@@ -48,11 +47,8 @@ pub fn put_constants(table: &[u8], s: &mut [u64])
         OnlyBelow (node_count table.now) s.old s.new }
 {
     let at = table::nodes_offset(table);
-    let count = table::nodes(table);
-    let mut n: usize = 0;
-    while n < count {
+    for n in 0..table::nodes(table) {
         s[n] = constant_cell(table, at, n);
-        n += 1;
     }
 }
 
@@ -60,7 +56,7 @@ pub fn put_constants(table: &[u8], s: &mut [u64])
 fn is_built(kind: usize) -> bool
     ensures { result ≡ built (kind_of kind) }
 {
-    (kind <= 43) & ((27 <= kind) | (kind == 25) | (kind == 21))
+    matches!(kind, 21 | 25 | 27..=43)
 }
 
 // Whether any node's value is.
@@ -69,13 +65,5 @@ pub fn builds(table: &[u8]) -> bool
     ensures { DecidesBuilds table.now result }
 {
     let at = table::nodes_offset(table);
-    let count = table::nodes(table);
-    let mut n: usize = 0;
-    while n < count {
-        if is_built(table::kind(table, at, n)) {
-            return true;
-        }
-        n += 1;
-    }
-    false
+    (0..table::nodes(table)).any(|n| is_built(table::kind(table, at, n)))
 }

@@ -1,18 +1,29 @@
--- The number and the place, in the terms of document 01, of what this crate's functions answer.
-use Rattle.std.specs.Prelude.{ℕ, List}
-use Rattle.rules.specs.Ends.{End, done, refused, ◌>>=◌, require_all}
+-- What this crate's functions answer, in the terms of the rules.
+use Rattle.std.specs.Prelude.{ℕ, Bool, List, ◌∷◌, ◌++◌, ◌≡◌, codes, decimal, Option, Result, Ok, Err}
+use Rattle.rules.specs.Ends.{End, done, refused, ◌>>=◌, least_failing, require_all}
 use Rattle.rules.specs.Tables.{Table, table_of, given_count, identifier_count, node_count}
 use Rattle.rules.specs.Reading.{size_good, bind_good, node_good, parent_good, height_good, binding, reading}
+use Rattle.table.specs.Places.{found_place}
 pub use Rattle.trees.specs.Arrays.{root_height}
-use Rattle.reading.specs.declared.Height.{Height}
-use Rattle.reading.specs.declared.Height.TheVariants.{Root, Refused as Unmeasured}
-use Rattle.reading.specs.declared.Reading.{Reading}
-use Rattle.reading.specs.declared.Reading.TheVariants.{Passed, Refused}
+use Rattle.reading.specs.declared.Refusal.{Refusal}
+
+-- What is printed of a refusal.
+abbrev pub refusal_text : Refusal → List ℕ
+refusal_text r = codes "refused " ++ decimal r.number ++ 32 ∷ decimal r.place
+
+-- A test that is passed, or its refusal.
+abbrev pub passed : Result (Unit {0}) Refusal → End (Unit {0})
+passed (Ok u) = done tt
+passed (Err r) = refused r.number r.place
+
+-- The answer to a search for the least number that fails a test: of each test of which the search has told, it is what the rules say.
+abbrev pub RequiresAll : ℕ → Option ℕ → Result (Unit {0}) Refusal → Type 0
+RequiresAll k found r = (ok : ℕ → Bool) (n : ℕ) → found_place found ≡ least_failing ok 0 n → passed r ≡ require_all k ok n
 
 -- A passed reading is the table of its bytes.
-abbrev pub reading_of : List ℕ → Reading → End Table
-reading_of bs Passed = done (table_of bs)
-reading_of bs (Refused r) = refused r.number r.place
+abbrev pub reading_of : List ℕ → Result (Unit {0}) Refusal → End Table
+reading_of bs (Ok u) = done (table_of bs)
+reading_of bs (Err r) = refused r.number r.place
 
 -- Refusals 7 to 9, the last stage of `reading`.
 unfoldable pub reading_tree : List ℕ → End Table
@@ -32,9 +43,9 @@ reading_records bs = do
   reading_tree bs
 
 -- A height, or the refusal of a table.
-abbrev pub height_of : Height → End ℕ
-height_of (Root h) = done h
-height_of (Unmeasured r) = refused r.number r.place
+abbrev pub height_of : Result ℕ Refusal → End ℕ
+height_of (Ok h) = done h
+height_of (Err r) = refused r.number r.place
 
 -- The root's height of a table that passes.
 abbrev pub measured : End Table → End ℕ

@@ -4,40 +4,31 @@ use Prim.Native.Nat.{ℕ, zero, suc, ◌+◌, ◌*◌, ◌-◌, ◌≤◌, ◌<�
 use mathlib.Core.Bool.{Bool, true, false, cond, false≢true}
 use mathlib.Core.List.{List, [], ◌∷◌}
 use mathlib.Core.Option.{Option}
-use mathlib.Core.Path.{◌≡◌, refl, sym, ap, ◌∙◌}
-use native.Mathlib.Decide.{ℕ_discrete}
+use mathlib.Core.Path.{◌≡◌, refl, sym, ap, ap₂, ◌∙◌}
 use native.Mathlib.Omega.{arith}
 use native.Mathlib.Numerals.{add-one}
 use lib.Dec.{eqb}
-use lib.ListN.{length, get_or, set, take, replicate, length-replicate, get_or-replicate}
-use lib.Seq.{get_or-set_same, get_or-set_other, take_all}
+use lib.ListN.{length, get_or, take, replicate, length-replicate, get_or-replicate}
+use lib.Seq.{take_all}
 use borrow.Author.Tests.{eq-eqb, ne_eqb}
 use Rattle.rules.specs.Kinds.{Kind, kind_of, predicate}
 use Rattle.rules.specs.Kinds.{Field, unused, child, use_of, binder_of, set_number, element_number, any_word, truth_bit, is_child}
 use Rattle.rules.specs.Tables.{Node, Table, table_of, node_at, kind_at, last_node, fields_at, fields_if, field_words, kept_if, pick, held, held_in, node_count}
-use Rattle.rules.specs.Reading.{occurrences, parent_good}
-use Rattle.rules.specs.Readable.{Header, FieldRight, FieldsRight}
-use Rattle.laws.proofs.TableLaws.{nodes_length, fields_right}
+use Rattle.rules.specs.Reading.{category_is, occurrences, parent_good}
+use Rattle.rules.specs.Readable.{FieldRight, FieldsRight}
+use Rattle.laws.proofs.TableLaws.{binds_length, nodes_length, fields_right}
 use Rattle.laws.proofs.TreeLaws.{occurrences_append}
-use Rattle.table.specs.Codes.{field_of, category_code, DigitOf}
-use Rattle.table.specs.Layout.{NodeIn, Fielded, field_codes_at, holds_at, field_at}
-use Rattle.trees.specs.Arrays.{FieldIn, more, Room, BumpPre, Bumped, child_at, Counted}
-use Rattle.table.proofs.Fields.{category_is_law, code_read, by_fields}
+use Rattle.table.specs.declared.NodeField.{NodeField}
+use Rattle.table.specs.Codes.{field_of}
+use Rattle.rules.proofs.Basics.{absurd01}
+use Rattle.table.specs.Layout.{FieldOf, NodeIn, Fielded, holds_at, field_at}
+use Rattle.trees.specs.Arrays.{Usable, more, Room, Bumped, child_at, Counted}
+use Rattle.table.proofs.Fields.{by_fields}
 
 -- What may be read of a node whose fields are right.
 module _ {bs : List ℕ} {at n : ℕ} where
   pub node_in : Fielded bs at → n < node_count bs → NodeIn bs at n
   node_in f h = record { laid = f.laid; below = h }
-
-  pub field_in : {i : ℕ} → Fielded bs at → n < node_count bs → i < 3 → FieldIn bs at n i
-  field_in f h l = record { fielded = f; below = h; inside = l }
-
-  pub field_asks : {i : ℕ} → FieldIn bs at n i → NodeIn bs at n × (i < 3)
-  field_asks f = (node_in f.fielded f.below, f.inside)
-
--- An array of length 512 reaches the last node.
-pub last_inside : {bs : List ℕ} {i : ℕ} → i ≡ node_count bs → Header bs → i - 1 < 512
-last_inside e h = omega (arith, e, h.few_nodes)
 
 module _ (p : Field → Bool) (none : p unused ≡ false) where
   -- Three fields, those of an unknown kind not used.
@@ -128,11 +119,6 @@ module _ (p : Field → Bool) (none : p unused ≡ false) (m : ℕ) where
         more_one (p (get_or (fields_at d) 2 unused)) d.c m,
       )
 
--- Whether a field holds a child, by the code that the code reads.
-pub child_read : (bs : List ℕ) (n i row code : ℕ) (hit : Bool) → row ≡ field_codes_at bs n → DigitOf row i code →
-    hit ≡ is_child (field_of code) → hit ≡ child_at bs n i
-child_read bs n i row code hit e d h = h ∙ ap is_child (code_read bs n row i code e d)
-
 -- A child is below its parent.
 pub child_lt : (tb : Table) (n : ℕ) (f : Field) (x : ℕ) → is_child f ≡ true → FieldRight tb n f x → x < n
 child_lt tb n unused x e h = absurd (false≢true e)
@@ -148,10 +134,28 @@ pub child_at_law : (bs : List ℕ) (at n i : ℕ) → Fielded bs at → n < node
 child_at_law bs at n i f h e =
     child_lt (table_of bs) n (holds_at bs n i) (field_at bs n i) e (field_held bs at n i f h (λ u. false≢true (sym (ap is_child u) ∙ e)))
 
--- So an array of length 512 reaches it.
-pub child_inside : (bs : List ℕ) (at n i : ℕ) → FieldIn bs at n i → child_at bs n i ≡ true → {x m : ℕ} → x ≡ field_at bs n i → m ≡ 512 → x < m
-child_inside bs at n i f e word long =
-    omega (arith, f.fielded.laid.header.few_nodes, child_at_law bs at n i f.fielded f.below e)
+-- A field that names an identifier holds a word below 32.
+name_inside : (bs : List ℕ) (at n i y : ℕ) (f : Field) → Fielded bs at → n < node_count bs → f ≡ holds_at bs n i → (f ≡ unused → ⊥) →
+    ((x : ℕ) → FieldRight (table_of bs) n f x → x < length (table_of bs).binds) → y ≡ field_at bs n i → y < 32
+name_inside bs at n i y f r below held used names word =
+    let right = field_held bs at n i r below (λ e. used (held ∙ e)) in
+    omega (arith, binds_length bs, r.laid.header.identifiers, names (field_at bs n i) (rw (← held) at right))
+
+-- What a field of a node holds is as large as its table allows.
+module _ {bs : List ℕ} {n i : ℕ} {f : NodeField} (h : FieldOf bs n i f) where
+  pub usable : {at : ℕ} → Fielded bs at → n < node_count bs → Usable f
+  usable {at} r below = record {
+    child = λ e. omega (arith, r.laid.header.few_nodes, h.word, child_at_law bs at n i r below (sym (ap is_child h.holds) ∙ e));
+    used = λ e. name_inside bs at n i f.word use_of r below (sym e ∙ h.holds) (λ q. absurd01 cc) (λ x k. k) h.word;
+    bound = λ e. name_inside bs at n i f.word binder_of r below (sym e ∙ h.holds) (λ q. absurd01 cc) (λ x k. k) h.word;
+  }
+
+  -- What is said of it is said of the field of the node.
+  pub bumped_here : (c c' : List ℕ) → Bumped c (is_child (field_of f.holds)) f.word c' → Bumped c (child_at bs n i) (field_at bs n i) c'
+  bumped_here c c' b m l = rw (← h.holds, ← h.word) (b m l)
+
+  pub height_here : (g : ℕ → ℕ) {p : ℕ} → p ≡ cond (is_child (field_of f.holds)) (g f.word) 0 → p ≡ cond (child_at bs n i) (g (field_at bs n i)) 0
+  height_here g e = e ∙ ap₂ (λ k x. cond (is_child k) (g x) 0) h.holds h.word
 
 -- No count is above k.
 abbrev pub Low : ℕ → List ℕ → Type 0
@@ -166,17 +170,6 @@ counted_low bs n c few below k m l =
 
 pub bumped_low : (k : ℕ) (c c' : List ℕ) (hit : Bool) (x : ℕ) → length c' ≡ length c → Low k c → Bumped c hit x c' → Low (k + 1) c'
 bumped_low k c c' hit x e low b m l = omega (arith, low m (omega arith), b m (omega arith), more_one hit x m)
-
--- The store at a field's word, by what the code has read of the field.
-module _ (bs : List ℕ) (at n i : ℕ) (c : List ℕ) (hit : Bool) (x : ℕ) (eh : hit ≡ child_at bs n i) (ex : x ≡ field_at bs n i) where
-  pub bump_pre : FieldIn bs at n i → length c ≡ 512 → Room c → BumpPre c hit x
-  bump_pre f long room = record {
-    inside = λ e. child_inside bs at n i f (sym eh ∙ e) ex long;
-    room = room;
-  }
-
-  pub bumped_field : (c' : List ℕ) → Bumped c hit x c' → Bumped c (child_at bs n i) (field_at bs n i) c'
-  bumped_field c' bumped = rw (← eh, ← ex) bumped
 
 -- Where each field of node n is counted, the counts are those of one node more.
 pub counted_more : (bs : List ℕ) (n : ℕ) (c c₁ c₂ c₃ : List ℕ) →
@@ -195,17 +188,6 @@ counted_more bs n c c₁ c₂ c₃ below e₁ e₂ e₃ counted b₁ b₂ b₃ m
       occurrences_held is_child refl m (node_at ns n),
     ))
 
--- One store counts a field.
-pub bumped_hit : (c : List ℕ) {hit : Bool} (x : ℕ) → BumpPre c hit x → hit ≡ true → Bumped c hit x (set c x (get_or c x 0 + 1))
-bumped_hit c {hit} x pre h m l = rw h (go (ℕ_discrete m x))
-  where
-    go : Dec (m ≡ x) → get_or (set c x (get_or c x 0 + 1)) m 0 ≡ get_or c m 0 + more true x m
-    go (yes e) = rw (e, get_or-set_same c x (get_or c x 0 + 1) 0 (pre.inside h), eq-eqb x x refl)
-    go (no e) = rw (get_or-set_other c x m (get_or c x 0 + 1) 0 e, ne_eqb m x e) (omega arith)
-
-pub bumped_miss : (c : List ℕ) {hit : Bool} (x : ℕ) → hit ≡ false → Bumped c hit x c
-bumped_miss c x h m l = rw h (omega arith)
-
 -- No node, and all of them.
 pub counted_none : (bs : List ℕ) (k : ℕ) → Counted bs 0 (replicate k 0)
 unfolding occurrences held_in
@@ -217,12 +199,11 @@ counted_all bs c counted m l =
     counted m l ∙ ap (λ (ns : List Node). occurrences m (held_in is_child ns)) (take_all (node_count bs) (table_of bs).nodes (omega (arith, nodes_length bs)))
 
 -- Refusal 7 at the last node, and at another.
-pub parent_last : (bs : List ℕ) (n k code : ℕ) → n + 1 ≡ node_count bs → k ≡ (node_at (table_of bs).nodes n).kind →
-    code ≡ category_code (kind_of k) → eqb code 1 ≡ parent_good (table_of bs) n
+pub parent_last : (bs : List ℕ) (n : ℕ) → n + 1 ≡ node_count bs → category_is predicate (kind_at (table_of bs).nodes n) ≡ parent_good (table_of bs) n
 unfolding parent_good last_node
-parent_last bs n k code e f g =
+parent_last bs n e =
     let l : n ≡ length (table_of bs).nodes - 1 = omega (arith, nodes_length bs) in
-    rw (eq-eqb n (length (table_of bs).nodes - 1) l, g, f) (category_is_law predicate (kind_at (table_of bs).nodes n))
+    rw (eq-eqb n (length (table_of bs).nodes - 1) l) refl
 
 pub parent_other : (bs : List ℕ) (n times : ℕ) → n < node_count bs → (n + 1 ≡ node_count bs → ⊥) →
     times ≡ occurrences n (held_in is_child (table_of bs).nodes) → eqb times 1 ≡ parent_good (table_of bs) n

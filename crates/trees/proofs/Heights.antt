@@ -38,13 +38,6 @@ tallest_held h bs n p q r s t ep eq er es et =
       kept_three h (is_child (get_or (fields_at d) 0 unused)) (is_child (get_or (fields_at d) 1 unused)) (is_child (get_or (fields_at d) 2 unused)) d.a d.b d.c,
     )
 
--- What a field gives, by the two ways out of the code.
-pub child_here : (f : ℕ → ℕ) (hit b : Bool) (x y : ℕ) → hit ≡ b → x ≡ y → hit ≡ true → f x ≡ cond b (f y) 0
-child_here f hit b x y e g t = rw (← e, t, g)
-
-pub child_none : (hit b : Bool) (z : ℕ) → hit ≡ b → hit ≡ false → 0 ≡ cond b z 0
-child_none hit b z e t = rw (← e, t)
-
 module _ (bs : List ℕ) (at n : ℕ) (f : Fielded bs at) (below : n < node_count bs) (hs : List ℕ) (heights : Heights bs n hs) (t : ℕ)
     (is : t ≡ tallest (λ m. get_or hs m 0) (held is_child (node_at (table_of bs).nodes n))) where
   -- The height of the next node,

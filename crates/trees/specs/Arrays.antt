@@ -1,15 +1,17 @@
 -- What the arrays of counts and heights hold.
 use Rattle.std.specs.Prelude.{ℕ, ◌+◌, ◌<◌, Bool, true, cond, List, ◌≡◌, eqb, length, get_or, take}
-use Rattle.rules.specs.Kinds.{is_child}
-use Rattle.rules.specs.Tables.{Table, table_of, held_in, node_count, of_root}
+use Rattle.rules.specs.Kinds.{is_child, use_of, binder_of}
+use Rattle.rules.specs.Tables.{Table, table_of, held_in, of_root}
 use Rattle.rules.specs.Reading.{occurrences, height}
-use Rattle.table.specs.Layout.{Fielded, holds_at}
+use Rattle.table.specs.declared.NodeField.{NodeField}
+use Rattle.table.specs.Codes.{field_of}
+use Rattle.table.specs.Layout.{holds_at}
 
--- Field i of node n may be read, of a table whose nodes' fields are right.
-pub record FieldIn (bs : List ℕ) (at n i : ℕ) : Type 0 where
-  pub fielded : Fielded bs at
-  pub below : n < node_count bs
-  pub inside : i < 3
+-- A child's number is one of an array of length 512, and an identifier's is a bit of a word.
+pub record Usable (f : NodeField) : Type 0 where
+  pub child : is_child (field_of f.holds) ≡ true → f.word < 512
+  pub used : field_of f.holds ≡ use_of → f.word < 32
+  pub bound : field_of f.holds ≡ binder_of → f.word < 32
 
 -- Whether field i of node n holds a child.
 abbrev pub child_at : List ℕ → ℕ → ℕ → Bool
@@ -22,10 +24,6 @@ more hit x m = cond hit (cond (eqb m x) 1 0) 0
 -- No count is the greatest that there can be.
 abbrev pub Room : List ℕ → Type 0
 Room c = (m : ℕ) → m < length c → get_or c m 0 < 65535
-
-pub record BumpPre (c : List ℕ) (hit : Bool) (x : ℕ) : Type 0 where
-  pub inside : hit ≡ true → x < length c
-  pub room : Room c
 
 abbrev pub Bumped : List ℕ → Bool → ℕ → List ℕ → Type 0
 Bumped c hit x c' = (m : ℕ) → m < length c → get_or c' m 0 ≡ get_or c m 0 + more hit x m

@@ -2,33 +2,30 @@
 #![tactic(auto)]
 
 ghost use Rattle.rules.specs.Readable.{Header};
-ghost use Rattle.std.specs.Prelude.{◌≡◌, cond, ◌+◌, ◌<◌, max, length, get_or};
+ghost use Rattle.std.specs.Prelude.{◌≡◌, cond, ◌+◌, ◌<◌, length, get_or};
 ghost use Rattle.rules.specs.Kinds.{is_child};
 ghost use Rattle.rules.specs.Tables.{table_of, node_at, held, held_in, node_count};
 ghost use Rattle.rules.specs.Ends.{least_failing};
 ghost use Rattle.rules.specs.Reading.{parent_good, height_good, occurrences, tallest};
-ghost use Rattle.table.specs.Places.{found_or};
-ghost use Rattle.table.specs.Layout.{NodeIn, Fielded, field_codes_at, field_at};
-ghost use Rattle.trees.specs.Arrays.{root_height, FieldIn, Room, BumpPre, Bumped, child_at, Counted, Heights};
+ghost use Rattle.table.specs.Places.{found_place};
+ghost use Rattle.table.specs.Codes.{field_of};
+ghost use Rattle.table.specs.Layout.{NodeIn, Fielded};
+ghost use Rattle.trees.specs.Arrays.{root_height, Usable, Room, Bumped, Counted, Heights};
+ghost use Rattle.std.specs.Option.{unwrap_or};
 
-// Adds 1 to the count at x if the field holds a child.
-fn bump(counted: &mut [u16], hit: bool, x: usize)
-    requires { BumpPre counted.old hit x }
-    ensures { Bumped counted.old hit x counted.new }
+use table::{NodeCategory, NodeField};
+
+// Arrays of 512, an entry for each node (fixed memory). They are slices with a length asked for, as in `set_heights` and `root_height`: a type of that
+// length would ask more of callers.
+
+// Counts what a field holds, if that is a child.
+fn count_field(field: NodeField, counted: &mut [u16])
+    requires { Usable field × (length counted.old ≡ 512) × Room counted.old }
+    ensures { Bumped counted.old (is_child (field_of field.holds)) field.word counted.new }
 {
-    if hit {
-        let c = counted[x];
-        counted[x] = c + 1;
+    if field.holds.is_child() {
+        counted[field.word] += 1;
     }
-}
-
-// Counts field i of a node whose kind has the row.
-fn count_field(table: &[u8], at: usize, n: usize, row: u16, i: usize, counted: &mut [u16])
-    requires { FieldIn table.now at n i × (length counted.old ≡ 512) × Room counted.old × (row ≡ field_codes_at table.now n) }
-    ensures { Bumped counted.old (child_at table.now n i) (field_at table.now n i) counted.new }
-{
-    let hit = table::holds_child(table::digit(row, i));
-    bump(counted, hit, table::field(table, at, n, i));
 }
 
 // Counts the fields of one node.
@@ -36,10 +33,10 @@ fn count_node(table: &[u8], at: usize, n: usize, counted: &mut [u16])
     requires { Fielded table.now at × (n < node_count table.now) × (length counted.old ≡ 512) × Counted table.now n counted.old }
     ensures { Counted table.now (n + 1) counted.new }
 {
-    let row = table::node_row(table, at, n);
-    count_field(table, at, n, row, 0, counted);
-    count_field(table, at, n, row, 1, counted);
-    count_field(table, at, n, row, 2, counted);
+    let fields = table::node_fields(table, at, n);
+    count_field(fields.a, counted);
+    count_field(fields.b, counted);
+    count_field(fields.c, counted);
 }
 
 // How often each node is a child.
@@ -47,59 +44,42 @@ fn count_nodes(table: &[u8], at: usize, counted: &mut [u16])
     requires { Fielded table.now at × (length counted.old ≡ 512) × Counted table.now 0 counted.old }
     ensures { Counted table.now (node_count table.now) counted.new }
 {
-    let count = table::nodes(table);
-    let mut n: usize = 0;
-    while n < count {
+    for n in 0..table::nodes(table) {
         count_node(table, at, n, counted);
-        n += 1;
     }
 }
 
-// Refusal 7 at one node that is a child so many times.
-fn parent_is_good(table: &[u8], at: usize, n: usize, times: u16) -> bool
-    requires { NodeIn table.now at n × (times ≡ occurrences n (held_in is_child (table_of table.now).nodes)) }
+// Refusal 7 at one node, by how often each node is a child.
+fn parent_is_good(table: &[u8], at: usize, n: usize, counted: &[u16]) -> bool
+    requires { NodeIn table.now at n × (length counted.now ≡ 512) × Counted table.now (node_count table.now) counted.now }
     ensures { result ≡ parent_good (table_of table.now) n }
 {
     if n + 1 == table::nodes(table) {
-        return table::category(table::kind(table, at, n)) == 1;
+        return table::category(table::kind(table, at, n)) == Some(NodeCategory::Predicate);
     }
-    times == 1
+    counted[n] == 1
 }
 
-// Refusal 7: the least node with a fault, or N.
-pub fn first_bad_parent(table: &[u8], at: usize) -> usize
+// Refusal 7: the least node with a fault.
+pub fn first_bad_parent(table: &[u8], at: usize) -> Option<usize>
     requires { Fielded table.now at }
-    ensures { result ≡ found_or (node_count table.now) (least_failing (parent_good (table_of table.now)) 0 (node_count table.now)) }
+    ensures { found_place result ≡ least_failing (parent_good (table_of table.now)) 0 (node_count table.now) }
 {
-    let count = table::nodes(table);
     let mut counted = [0u16; 512];
     count_nodes(table, at, &mut counted);
-    let mut n: usize = 0;
-    while n < count {
-        let times = counted[n];
-        if !parent_is_good(table, at, n, times) {
-            return n;
-        }
-        n += 1;
-    }
-    count
+    (0..table::nodes(table)).find(|n| !parent_is_good(table, at, *n, &counted))
 }
 
-fn larger(a: u8, b: u8) -> u8
-    ensures { result ≡ max a b }
+// The height of the child in a field, or 0 where the field holds none: the least for `max`, and what the clause names (`cond`).
+fn child_height(field: NodeField, heights: &[u8]) -> u8
+    requires { Usable field × (length heights.now ≡ 512) }
+    ensures { result ≡ cond (is_child (field_of field.holds)) (get_or heights.now field.word 0) 0 }
 {
-    if a < b { b } else { a }
-}
-
-// The height of the child in field i of a node whose kind has the row, or 0 where the field holds none.
-fn child_height(table: &[u8], at: usize, n: usize, row: u16, i: usize, heights: &[u8]) -> u8
-    requires { FieldIn table.now at n i × (length heights.now ≡ 512) × (row ≡ field_codes_at table.now n) }
-    ensures { result ≡ cond (child_at table.now n i) (get_or heights.now (field_at table.now n i) 0) 0 }
-{
-    if table::holds_child(table::digit(row, i)) {
-        return heights[table::field(table, at, n, i)];
+    if field.holds.is_child() {
+        heights[field.word]
+    } else {
+        0
     }
-    0
 }
 
 // The greatest height of a node's children.
@@ -107,43 +87,39 @@ fn tallest_child(table: &[u8], at: usize, n: usize, heights: &[u8]) -> u8
     requires { Fielded table.now at × (n < node_count table.now) × (length heights.now ≡ 512) }
     ensures { result ≡ tallest (λ m. get_or heights.now m 0) (held is_child (node_at (table_of table.now).nodes n)) }
 {
-    let row = table::node_row(table, at, n);
-    let a = child_height(table, at, n, row, 0, heights);
-    let b = child_height(table, at, n, row, 1, heights);
-    let c = child_height(table, at, n, row, 2, heights);
-    larger(a, larger(b, c))
+    let fields = table::node_fields(table, at, n);
+    let a = child_height(fields.a, heights);
+    let b = child_height(fields.b, heights);
+    let c = child_height(fields.c, heights);
+    a.max(b.max(c))
 }
 
 // Refusal 8: no node is higher.
 const HEIGHT_LIMIT: u8 = 27;
 
-// Refusal 8: the least node whose height is above the limit, or N. Sets the heights of the nodes below it.
-pub fn set_heights(table: &[u8], at: usize, heights: &mut [u8]) -> usize
+// Refusal 8: the least node whose height is above the limit. Sets the heights of the nodes below it, or of all.
+pub fn set_heights(table: &[u8], at: usize, heights: &mut [u8]) -> Option<usize>
     requires { Fielded table.now at × (length heights.old ≡ 512) }
-    ensures { (result ≡ found_or (node_count table.now) (least_failing (height_good (table_of table.now)) 0 (node_count table.now))) ×
-        Heights table.now result heights.new }
+    ensures { (found_place result ≡ least_failing (height_good (table_of table.now)) 0 (node_count table.now)) ×
+        Heights table.now (unwrap_or result (node_count table.now)) heights.new }
 {
-    let count = table::nodes(table);
-    let mut n: usize = 0;
-    while n < count {
+    for n in 0..table::nodes(table) {
         let h = tallest_child(table, at, n, heights);
         if HEIGHT_LIMIT <= h {
-            return n;
+            return Some(n);
         }
         heights[n] = h + 1;
-        n += 1;
     }
-    count
+    None
 }
 
-// The height of the root by those of all nodes, 0 where there is none.
+// The height of the root by those of all nodes, 0 where there is none, as the definition of that name has it.
 pub fn root_height(table: &[u8], heights: &[u8]) -> usize
     requires { Header table.now × (length heights.now ≡ 512) × Heights table.now (node_count table.now) heights.now }
     ensures { result ≡ root_height (table_of table.now) }
 {
-    let count = table::nodes(table);
-    if count == 0 {
-        return 0;
+    match table::nodes(table) {
+        0 => 0,
+        count => usize::from(heights[count - 1]),
     }
-    table::wide(heights[count - 1])
 }

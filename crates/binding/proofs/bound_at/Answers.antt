@@ -1,27 +1,14 @@
--- Only the first field of a kind binds; the landmark is its code.
-use mathlib.Core.Path.{◌≡◌, sym, ap, ◌∙◌}
-use Rattle.rules.specs.Kinds.{binder_of}
-use Rattle.rules.proofs.Basics.{absurd01}
+-- Only the first field of a kind binds.
+use mathlib.Core.Path.{ap}
 use Rattle.table.specs.Codes.{field_of}
-use Rattle.table.specs.Layout.{holds_at}
-use Rattle.table.proofs.Fields.{code_read}
-use Rattle.binding.proofs.Occurs.{name_inside, binds_one, binds_none}
+use Rattle.binding.proofs.Occurs.{bound_one, bound_none}
 use Rattle.binding.proofs.bound_at.Goals as goal
 
 pub bit-requires : goal.bit-requires
-bit-requires c =
-    let code : field_of c.digit.result ≡ holds_at c.args.table.now c.args.n 0 =
-    code_read c.args.table.now c.args.n c.args.row 0 c.digit.result c.requires.1 c.digit.ensures in
-    name_inside _ _ _ _ _ binder_of c.requires.0 (sym (ap field_of c.if-digit-eq4.true) ∙ code) (λ e. absurd01 cc) (λ x h. h) c.field.ensures
+bit-requires c = c.requires.bound (ap field_of c.in-IdentifierBound.is)
 
-pub returns-then-digit-eq4 : goal.returns-then-digit-eq4
-returns-then-digit-eq4 c =
-    let code : field_of c.digit.result ≡ holds_at c.args.table.now c.args.n 0 =
-    code_read c.args.table.now c.args.n c.args.row 0 c.digit.result c.requires.1 c.digit.ensures in
-    binds_one _ _ c.digit.result code _ _ c.field.ensures c.if-digit-eq4.true c.bit.ensures
+pub returns-in-IdentifierBound : goal.returns-in-IdentifierBound
+returns-in-IdentifierBound c = bound_one _ _ c.in-IdentifierBound.is c.bit.ensures
 
-pub returns : goal.returns
-returns c =
-    let code : field_of c.digit.result ≡ holds_at c.args.table.now c.args.n 0 =
-    code_read c.args.table.now c.args.n c.args.row 0 c.digit.result c.requires.1 c.digit.ensures in
-    binds_none _ _ c.digit.result code c.if-digit-eq4.false
+pub returns-in_default : goal.returns-in_default
+returns-in_default c = bound_none c.args.first.holds c.args.first.word c.in_default.not-IdentifierBound

@@ -1,55 +1,54 @@
--- Stages 1 to 3 of `reading`, then the records. Landmarks: the stages that passed.
-use mathlib.Core.Bool.{true}
-use mathlib.Core.Path.{◌≡◌, ap, sym, ◌∙◌}
-use Rattle.rules.specs.Reading.{headed, limited, laid_out}
-use Rattle.laws.proofs.ReadingLaws.{refused_1, refused_2, refused_3}
-use Rattle.table.proofs.Least.{fails, passes}
-use Rattle.reading.specs.Answers.{height_of, measured, reading_height}
-use Rattle.reading.proofs.Stages.{long, header_read, records_left}
+-- Stages 1 to 3 of `reading`, then the records.
+use mathlib.Core.Path.{ap, ◌∙◌}
+use Rattle.std.proofs.lemmas.Result.{err_from_is_err_and}
+use Rattle.rules.specs.Ends.{require}
+use Rattle.rules.specs.Reading.{reading}
+use Rattle.reading.specs.Answers.{reading_tree, reading_records, reading_height}
+use Rattle.reading.proofs.Stages.{stage_refused, stage_passed, test_passed, long, header_read}
 use Rattle.reading.proofs.read_height.Goals as goal
 
-pub returns-then-not-is_headed : goal.returns-then-not-is_headed
-unfolding reading_height
-returns-then-not-is_headed c =
-    ap height_of c.refused.ensures
-    ∙ sym (ap measured (refused_1 c.args.table.now (fails c.is_headed.ensures c.if-not-is_headed.true)))
+pub returns-in_err-require : goal.returns-in_err-require
+unfolding reading_height reading
+returns-in_err-require c =
+    let r = c.from_residual in
+    let p = err_from_is_err_and r.result r.ensures.1 in
+    rw (p.1, p.2)
+    (stage_refused _ _ (c.in_err-require.ensures ∙ ap (require 1 0) c.is_headed.ensures))
+
+pub returns-in_err-require-2 : goal.returns-in_err-require-2
+unfolding reading_height reading
+returns-in_err-require-2 c =
+    let r = c.from_residual-in_err-require-2 in
+    let p = err_from_is_err_and r.result r.ensures.1 in
+    rw (p.1, p.2)
+    (stage_passed _ _ _ (c.in_ok-require.ensures ∙ ap (require 1 0) c.is_headed.ensures)
+    (stage_refused _ _ (c.in_err-require-2.ensures ∙ ap (require 2 0) c.is_limited.ensures)))
+
+pub returns-in_err-require-3 : goal.returns-in_err-require-3
+unfolding reading_height reading
+returns-in_err-require-3 c =
+    let r = c.from_residual-in_err-require-3 in
+    let p = err_from_is_err_and r.result r.ensures.1 in
+    rw (p.1, p.2)
+    (stage_passed _ _ _ (c.in_ok-require.ensures ∙ ap (require 1 0) c.is_headed.ensures)
+    (stage_passed _ _ _ (c.in_ok-require-2.ensures ∙ ap (require 2 0) c.is_limited.ensures)
+    (stage_refused _ _ (c.in_err-require-3.ensures ∙ ap (require 3 0) c.is_laid_out.ensures))))
 
 pub is_limited-requires : goal.is_limited-requires
-is_limited-requires c =
-    let passed₁ : headed c.args.table.now ≡ true = passes c.is_headed.ensures c.if-not-is_headed.false in
-    long _ passed₁
-
-pub returns-then-not-is_limited : goal.returns-then-not-is_limited
-unfolding reading_height
-returns-then-not-is_limited c =
-    let passed₁ : headed c.args.table.now ≡ true = passes c.is_headed.ensures c.if-not-is_headed.false in
-    ap height_of c.refused-then-not-is_limited.ensures
-    ∙ sym (ap measured (refused_2 c.args.table.now passed₁ (fails c.is_limited.ensures c.if-not-is_limited.true)))
+is_limited-requires c = long _ (test_passed 1 c.in_ok-require.ensures c.is_headed.ensures)
 
 pub is_laid_out-requires : goal.is_laid_out-requires
-is_laid_out-requires c =
-    let passed₁ : headed c.args.table.now ≡ true = passes c.is_headed.ensures c.if-not-is_headed.false in
-    long _ passed₁
-
-pub returns-then-not-is_laid_out : goal.returns-then-not-is_laid_out
-unfolding reading_height
-returns-then-not-is_laid_out c =
-    let passed₁ : headed c.args.table.now ≡ true = passes c.is_headed.ensures c.if-not-is_headed.false in
-    let passed₂ : limited c.args.table.now ≡ true = passes c.is_limited.ensures c.if-not-is_limited.false in
-    ap height_of c.refused-then-not-is_laid_out.ensures
-    ∙ sym (ap measured (refused_3 c.args.table.now passed₁ passed₂ (fails c.is_laid_out.ensures c.if-not-is_laid_out.true)))
+is_laid_out-requires c = long _ (test_passed 1 c.in_ok-require.ensures c.is_headed.ensures)
 
 pub read_records-requires : goal.read_records-requires
 read_records-requires c =
-    let passed₁ : headed c.args.table.now ≡ true = passes c.is_headed.ensures c.if-not-is_headed.false in
-    let passed₂ : limited c.args.table.now ≡ true = passes c.is_limited.ensures c.if-not-is_limited.false in
-    let passed₃ : laid_out c.args.table.now ≡ true = passes c.is_laid_out.ensures c.if-not-is_laid_out.false in
-    header_read _ passed₁ passed₂ passed₃
+    header_read _ (test_passed 1 c.in_ok-require.ensures c.is_headed.ensures)
+    (test_passed 2 c.in_ok-require-2.ensures c.is_limited.ensures) (test_passed 3 c.in_ok-require-3.ensures c.is_laid_out.ensures)
 
 pub returns : goal.returns
-unfolding reading_height
+unfolding reading_height reading reading_records reading_tree
 returns c =
-    let passed₁ : headed c.args.table.now ≡ true = passes c.is_headed.ensures c.if-not-is_headed.false in
-    let passed₂ : limited c.args.table.now ≡ true = passes c.is_limited.ensures c.if-not-is_limited.false in
-    let passed₃ : laid_out c.args.table.now ≡ true = passes c.is_laid_out.ensures c.if-not-is_laid_out.false in
-    c.read_records.ensures ∙ ap measured (records_left c.args.table.now passed₁ passed₂ passed₃)
+    stage_passed _ _ _ (c.in_ok-require.ensures ∙ ap (require 1 0) c.is_headed.ensures)
+    (stage_passed _ _ _ (c.in_ok-require-2.ensures ∙ ap (require 2 0) c.is_limited.ensures)
+    (stage_passed _ _ _ (c.in_ok-require-3.ensures ∙ ap (require 3 0) c.is_laid_out.ensures)
+    c.read_records.ensures))

@@ -1,32 +1,43 @@
--- Stages 4 to 6 of `reading`, then the tree. Landmarks: the stages that passed, and what was lent.
+-- Stages 4 to 6 of `reading`, then the tree.
+use Rattle.std.proofs.lemmas.Result.{err_from_is_err_and}
 use Rattle.reading.specs.Answers.{reading_records}
 use Rattle.reading.proofs.Stages.{stage_refused, stage_passed, nodes_fielded}
 use Rattle.reading.proofs.read_records.Goals as goal
 
-pub returns-then-g-givens : goal.returns-then-g-givens
+pub returns-in_err-require_none : goal.returns-in_err-require_none
 unfolding reading_records
-returns-then-g-givens c = stage_refused 4 _ _ _ _ c.first_bad_size-g.ensures c.givens.ensures _ _ c.refused.ensures c.if-g-givens.true
+returns-in_err-require_none c =
+    let r = c.from_residual in
+    let p = err_from_is_err_and r.result r.ensures.1 in
+    rw (p.1, p.2)
+    (stage_refused _ _ (c.in_err-require_none.ensures _ _ c.first_bad_size.ensures))
 
-pub returns-then-x-identifiers : goal.returns-then-x-identifiers
+pub returns-in_err-require_none-2 : goal.returns-in_err-require_none-2
 unfolding reading_records
-returns-then-x-identifiers c =
-    stage_passed 4 _ _ _ _ c.first_bad_size-g.ensures c.givens.ensures _ _ c.if-g-givens.false
-    (stage_refused 5 _ _ _ _ c.first_bad_bind-x.ensures c.identifiers.ensures _ _ c.refused-then-x-identifiers.ensures c.if-x-identifiers.true)
+returns-in_err-require_none-2 c =
+    let r = c.from_residual-in_err-require_none-2 in
+    let p = err_from_is_err_and r.result r.ensures.1 in
+    rw (p.1, p.2)
+    (stage_passed _ _ _ (c.in_ok-require_none.ensures _ _ c.first_bad_size.ensures)
+    (stage_refused _ _ (c.in_err-require_none-2.ensures _ _ c.first_bad_bind.ensures)))
 
-pub returns-then-n-nodes : goal.returns-then-n-nodes
+pub returns-in_err-require_none-3 : goal.returns-in_err-require_none-3
 unfolding reading_records
-returns-then-n-nodes c =
-    stage_passed 4 _ _ _ _ c.first_bad_size-g.ensures c.givens.ensures _ _ c.if-g-givens.false
-    (stage_passed 5 _ _ _ _ c.first_bad_bind-x.ensures c.identifiers.ensures _ _ c.if-x-identifiers.false
-    (stage_refused 6 _ _ _ _ c.first_bad_node-n.ensures c.nodes.ensures _ _ c.refused-then-n-nodes.ensures c.if-n-nodes.true))
+returns-in_err-require_none-3 c =
+    let r = c.from_residual-in_err-require_none-3 in
+    let p = err_from_is_err_and r.result r.ensures.1 in
+    rw (p.1, p.2)
+    (stage_passed _ _ _ (c.in_ok-require_none.ensures _ _ c.first_bad_size.ensures)
+    (stage_passed _ _ _ (c.in_ok-require_none-2.ensures _ _ c.first_bad_bind.ensures)
+    (stage_refused _ _ (c.in_err-require_none-3.ensures _ _ c.first_bad_node.ensures))))
 
 pub read_tree-requires : goal.read_tree-requires
-read_tree-requires c = nodes_fielded _ _ _ _ c.requires c.nodes_offset-at.ensures c.first_bad_node-n.ensures c.nodes.ensures c.if-n-nodes.false
+read_tree-requires c = nodes_fielded _ _ c.requires c.nodes_offset-at.ensures (c.in_ok-require_none-3.ensures _ _ c.first_bad_node.ensures)
 
 pub returns : goal.returns
 unfolding reading_records
 returns c =
-    stage_passed 4 _ _ _ _ c.first_bad_size-g.ensures c.givens.ensures _ _ c.if-g-givens.false
-    (stage_passed 5 _ _ _ _ c.first_bad_bind-x.ensures c.identifiers.ensures _ _ c.if-x-identifiers.false
-    (stage_passed 6 _ _ _ _ c.first_bad_node-n.ensures c.nodes.ensures _ _ c.if-n-nodes.false
+    stage_passed _ _ _ (c.in_ok-require_none.ensures _ _ c.first_bad_size.ensures)
+    (stage_passed _ _ _ (c.in_ok-require_none-2.ensures _ _ c.first_bad_bind.ensures)
+    (stage_passed _ _ _ (c.in_ok-require_none-3.ensures _ _ c.first_bad_node.ensures)
     c.read_tree.ensures))

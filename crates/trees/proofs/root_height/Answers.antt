@@ -1,12 +1,12 @@
--- The height of the last node, or 0 where there is none. Landmarks: the count of the nodes, and what was lent.
+-- The height of the last node, or 0 where there is none.
 use mathlib.Core.Path.{◌∙◌}
+use Rattle.std.proofs.Common.{rules}
 use Rattle.trees.proofs.Heights.{root_height_law, no_height}
 use Rattle.trees.proofs.root_height.Goals as goal
 
-pub returns-then-count-eq0 : goal.returns-then-count-eq0
-returns-then-count-eq0 c = no_height c.args.table.now _ c.nodes-count.ensures c.if-count-eq0.true
+pub returns-in-0 : goal.returns-in-0
+returns-in-0 c = no_height c.args.table.now _ c.nodes.ensures c.in-0.is
 
-pub returns : goal.returns
-returns c =
-    c.wide.ensures.0
-    ∙ root_height_law c.args.table.now _ c.nodes-count.ensures c.args.heights.now c.requires.2 c.if-count-eq0.false
+pub returns-in_default : goal.returns-in_default
+returns-in_default c =
+    c.from.ensures ∙ root_height_law c.args.table.now _ c.nodes.ensures c.args.heights.now c.requires.2 (search rules)
