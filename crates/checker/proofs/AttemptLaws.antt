@@ -1,47 +1,32 @@
 -- What an attempt comes to, by what merging came to and by the decision.
 use Prim.Native.Nat.{ℕ}
-use mathlib.Core.Bool.{Bool, true, false, true≢false, false≢true}
+use mathlib.Core.Bool.{true, false}
 use mathlib.Core.List.{List}
-use mathlib.Core.Path.{◌≡◌, sym, subst}
 use native.Mathlib.Omega.{arith}
 use lib.ListN.{length}
-use Rattle.terms.specs.Terms.{Terms}
+use Rattle.std.specs.Prelude.{Ok, Err}
 use Rattle.terms.specs.Decided.{Decision}
-use Rattle.classes.specs.declared.Merged.{Merged}
-use Rattle.classes.specs.declared.Merged.TheVariants.{All, Clash as ClashOf, ClashInside}
+use Rattle.terms.proofs.SaysLaws.{says_same}
+use Rattle.classes.specs.declared.Clash.TheVariants.{Here, Inside}
 use Rattle.classes.specs.Merging.{MergedAll}
-use Rattle.checker.specs.declared.solving.Attempt.{Attempt}
-use Rattle.checker.specs.Solving.{is_inside}
-use Rattle.checker.specs.Attempts.{failed_as, decided_as, Attempted}
-use Rattle.checker.proofs.SolvingLaws.{says_both}
+use Rattle.checker.specs.declared.solving.Unsolved.TheVariants.{At, UpTo}
+use Rattle.checker.specs.Attempts.{Attempted}
 
 module _ (n : ℕ) (ts eqns after : List ℕ) where
-  pub terms_of : (r : Merged) → MergedAll n ts eqns r after → is_inside r ≡ false → Terms n after
-  terms_of All m e = m.terms
-  terms_of (ClashOf i) m e = m.2.terms
-  terms_of (ClashInside i) m e = absurd (true≢false e)
+  pub inside_fails : (i : ℕ) → MergedAll n ts eqns (Err (Inside i)) after → (after₂ marks : List ℕ) → Attempted n ts eqns (Err (UpTo i)) after₂ marks
+  inside_fails i m after₂ marks = λ θ s h. m.1 θ s (λ j l. h j (omega (arith, m.0)))
 
   module _ (after₂ marks : List ℕ) where
-    abbrev Comes : Attempt → Type 0
-    Comes x = Attempted n ts eqns x after₂ marks
+    pub merged_solves : MergedAll n ts eqns (Ok tt) after → Decision n after after₂ marks true → Attempted n ts eqns (Ok tt) after₂ marks
+    merged_solves m d = (says_same m d.0, d.1)
 
-    pub failed_inside : (r : Merged) → MergedAll n ts eqns r after → is_inside r ≡ true → (x : Attempt) → x ≡ failed_as r (length eqns) → Comes x
-    failed_inside All m e x f = absurd (false≢true e)
-    failed_inside (ClashOf i) m e x f = absurd (false≢true e)
-    failed_inside (ClashInside i) m e x f = subst Comes (sym f) (λ θ s h. m.1 θ s (λ j l. h j (omega (arith, m.0))))
+    pub merged_fails : MergedAll n ts eqns (Ok tt) after → Decision n after after₂ marks false → Attempted n ts eqns (Err (UpTo (length eqns))) after₂ marks
+    merged_fails m d = λ θ s h. d θ ((m.iff θ).0 (s, λ j l. h j (omega arith)))
 
-    pub failed_cycle : (r : Merged) → MergedAll n ts eqns r after → is_inside r ≡ false → (b : Bool) → Decision n after after₂ marks b → b ≡ false →
-        (x : Attempt) → x ≡ failed_as r (length eqns) → Comes x
-    failed_cycle All m e true d g x f = absurd (true≢false g)
-    failed_cycle All m e false d g x f = subst Comes (sym f) (λ θ s h. d θ ((m.iff θ).0 (s, λ j l. h j (omega arith))))
-    failed_cycle (ClashOf i) m e true d g x f = absurd (true≢false g)
-    failed_cycle (ClashOf i) m e false d g x f = subst Comes (sym f) (λ θ s h. d θ ((m.2.iff θ).0 (s, λ j l. h j (omega (arith, m.0)))))
-    failed_cycle (ClashInside i) m e b d g x f = absurd (true≢false e)
+    pub clash_solves : (i : ℕ) → MergedAll n ts eqns (Err (Here i)) after → Decision n after after₂ marks true →
+        Attempted n ts eqns (Err (At i)) after₂ marks
+    clash_solves i m d = (m.0, m.1, says_same m.2 d.0, d.1)
 
-    pub decided_all : (r : Merged) → MergedAll n ts eqns r after → is_inside r ≡ false → (b : Bool) → Decision n after after₂ marks b → b ≡ true →
-        (x : Attempt) → x ≡ decided_as r → Comes x
-    decided_all All m e true d g x f = subst Comes (sym f) (says_both m d.0, d.1)
-    decided_all All m e false d g x f = absurd (false≢true g)
-    decided_all (ClashOf i) m e true d g x f = subst Comes (sym f) (m.0, m.1, says_both m.2 d.0, d.1)
-    decided_all (ClashOf i) m e false d g x f = absurd (false≢true g)
-    decided_all (ClashInside i) m e b d g x f = absurd (true≢false e)
+    pub clash_fails : (i : ℕ) → MergedAll n ts eqns (Err (Here i)) after → Decision n after after₂ marks false →
+        Attempted n ts eqns (Err (UpTo i)) after₂ marks
+    clash_fails i m d = λ θ s h. d θ ((m.2.iff θ).0 (s, λ j l. h j (omega (arith, m.0))))

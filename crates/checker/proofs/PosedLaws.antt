@@ -3,7 +3,7 @@ use Prim.Native.Nat.{ℕ, suc, ◌+◌, ◌*◌, ◌/◌, ◌%◌, ◌≤◌, �
 use mathlib.Core.Bool.{Bool, true, false}
 use mathlib.Core.List.{List, [], ◌∷◌}
 use mathlib.Core.Logic.{◌↔◌}
-use mathlib.Core.Path.{◌≡◌, sym, subst, ◌∙◌}
+use mathlib.Core.Path.{◌≡◌, sym, ap, subst, ◌∙◌}
 use native.Mathlib.Omega.{arith}
 use lib.ListN.{get_or, length, take}
 use lib.Seq.{get_or-take, length-take-le}
@@ -221,3 +221,52 @@ module _ {bs shapes eqns starts : List ℕ} (r : Ready bs shapes eqns starts) {k
 
     pub marks_long : length (take v marks) ≡ length (take v terms)
     marks_long = length-take-le v marks marks_part ∙ sym (length-take-le v terms terms_part)
+
+-- What the code reads of the whole table: n nodes, v variables and m equations.
+module _ {bs shapes eqns starts : List ℕ} (r : Ready bs shapes eqns starts) {n : ℕ} (en : n ≡ node_count bs) where
+  whole : node_count bs ≤ node_count bs
+  whole = omega arith
+
+  count_read : {m : ℕ} → m ≡ get_or starts n 0 / 4096 → m ≡ get_or starts (node_count bs) 0 / 4096
+  count_read e = e ∙ ap (λ k. get_or starts k 0 / 4096) en
+
+  pub all_equations : {m : ℕ} → m ≡ get_or starts n 0 / 4096 → m ≡ length (equations (table_of bs) (node_count bs))
+  all_equations e = counted r whole (count_read e)
+
+  pub equations_inside : {m : ℕ} → m ≡ get_or starts n 0 / 4096 → m ≡ length (take m eqns)
+  equations_inside {m} e = sym (length-take-le m eqns (equations_part r whole (count_read e)))
+
+  module _ {terms stack marks : List ℕ} (w : WorkRoom bs terms stack marks) {v : ℕ} (ev : v ≡ get_or starts n 0 % 4096) where
+    variable_read : v ≡ get_or starts (node_count bs) 0 % 4096
+    variable_read = ev ∙ ap (λ k. get_or starts k 0 % 4096) en
+
+    pub variables_are : v ≡ base (table_of bs) (node_count bs)
+    variables_are = variable_read ∙ start_variable r whole
+
+    pub terms_fit : v ≤ length terms
+    terms_fit = terms_part r whole w variable_read
+
+    pub stack_fit : v ≤ length stack
+    stack_fit = stack_part r whole w variable_read
+
+    pub marks_fit : v ≤ length marks
+    marks_fit = marks_part r whole w variable_read
+
+    pub terms_inside : v ≡ length (take v terms)
+    terms_inside = sym (length-take-le v terms terms_fit)
+
+    pub stack_inside : v ≡ length (take v stack)
+    stack_inside = sym (length-take-le v stack stack_fit)
+
+    pub marks_inside : v ≡ length (take v marks)
+    marks_inside = sym (length-take-le v marks marks_fit)
+
+    pub all_variables : length (take v terms) ≡ base (table_of bs) (node_count bs)
+    all_variables = terms_long r whole w variable_read
+
+    pub marks_beside : length (take v marks) ≡ length (take v terms)
+    marks_beside = marks_long r whole w variable_read
+
+    pub whole_room : {m : ℕ} → m ≡ get_or starts n 0 / 4096 →
+        PartRoom (length (take v terms)) shapes (take m eqns) stack × (length (take v marks) ≡ length (take v terms))
+    whole_room em = (part_room r whole (all_equations em) all_variables stack w.stack_room, marks_beside)

@@ -1,5 +1,5 @@
 -- What the attempt to solve the whole table says of it: solved, its first clash, or nodes that have no typing.
-use Prim.Native.Nat.{ℕ, zero, suc, ◌≤◌, ◌<◌, min}
+use Prim.Native.Nat.{ℕ, zero, suc, ◌≤◌, ◌<◌}
 use mathlib.Core.List.{List, ◌++◌}
 use mathlib.Core.Logic.{◌⊎◌, inl, inr}
 use mathlib.Core.Path.{◌≡◌, refl, sym, subst, ◌∙◌}
@@ -9,10 +9,10 @@ use lib.Seq.{take-append_seam, length-take-le}
 use Rattle.rules.specs.Tables.{Table, table_of, node_count, nodes_at}
 use Rattle.laws.proofs.TableLaws.{nodes_length}
 use Rattle.terms.specs.Terms.{Terms}
-use Rattle.classes.specs.Merging.{NoneTo}
 use Rattle.typing.specs.Equations.{base, equations}
-use Rattle.checker.specs.declared.solving.Attempt.{Attempt}
-use Rattle.checker.specs.declared.solving.Attempt.TheVariants.{Solved as Solves, Clash, Failed}
+use Rattle.std.specs.Prelude.{Result, Ok, Err}
+use Rattle.checker.specs.declared.solving.Unsolved.{Unsolved}
+use Rattle.checker.specs.declared.solving.Unsolved.TheVariants.{At, UpTo}
 use Rattle.checker.specs.Solving.{Ready, Untypable, FirstClash, count_at, EquationBelow, EquationAt, NodesTo, SolvedBelow, SolvedTo}
 use Rattle.checker.specs.Attempts.{Attempted}
 use Rattle.checker.specs.Answers.{Checkable, Answerable}
@@ -44,66 +44,49 @@ module _ {bs shapes eqns starts : List ℕ} (r : Ready bs shapes eqns starts) {n
   count_at_law : {k : ℕ} → k ≤ node_count bs → count_at starts k ≡ length (equations tb k)
   count_at_law h = start_count r h
 
-  module _ (ts marks : List ℕ) (a : Attempt) (x : Attempted v (take v shapes) (take m eqns) a ts marks) where
-    pub whole_solved : a ≡ Solves → (ts₂ marks₂ : List ℕ) → length marks ≡ v → SolvedTo tb (node_count bs) (ts ++ ts₂) (marks ++ marks₂) n
-    whole_solved e ts₂ marks₂ lm =
-        let y = subst (λ b. Attempted v (take v shapes) (take m eqns) b ts marks) e x in
-        let s = part_solved r all em ev ts marks y.0 y.1 in
-        record {
-          inside = omega arith;
-          clash = λ l. absurd (omega arith);
-          solved = λ _. subst (λ l. SolvedBelow tb (node_count bs) l (take (base tb (node_count bs)) (marks ++ marks₂)))
-              (sym (front ts ts₂ s.terms.len)) (subst (λ l. SolvedBelow tb (node_count bs) ts l) (sym (front marks marks₂ (lm ∙ ev))) s);
-        }
+  module _ (ts marks : List ℕ) where
+    abbrev Comes : Result (Unit {0}) Unsolved → Type 0
+    Comes a = Attempted v (take v shapes) (take m eqns) a ts marks
 
-    module _ {e : ℕ} (q : a ≡ Clash e) where
-      found : Attempted v (take v shapes) (take m eqns) (Clash e) ts marks
-      found = subst (λ b. Attempted v (take v shapes) (take m eqns) b ts marks) q x
+    pub whole_solved : Comes (Ok tt) → (ts₂ marks₂ : List ℕ) → length marks ≡ v → SolvedTo tb (node_count bs) (ts ++ ts₂) (marks ++ marks₂) (Ok tt)
+    whole_solved x ts₂ marks₂ lm =
+        let s = part_solved r all em ev ts marks x.0 x.1 in
+        subst (λ l. SolvedBelow tb (node_count bs) l (take (base tb (node_count bs)) (marks ++ marks₂)))
+        (sym (front ts ts₂ s.terms.len)) (subst (λ l. SolvedBelow tb (node_count bs) ts l) (sym (front marks marks₂ (lm ∙ ev))) s)
 
+    module _ {e : ℕ} (x : Comes (Err (At e))) where
       pub clash_below : EquationBelow starts e n
       clash_below = record {
         inside = nodes_inside;
         begins = omega (arith, count_at_law {k = 0} (omega arith), no_equations tb);
-        ends = subst (λ k. e < count_at starts k) (sym en) (omega (arith, found.0, long, count_at_law all));
+        ends = subst (λ k. e < count_at starts k) (sym en) (omega (arith, x.0, long, count_at_law all));
       }
 
-      pub clash_solved : (terms' marks' : List ℕ) {k : ℕ} → EquationAt starts e n k → SolvedTo tb (node_count bs) terms' marks' k
-      clash_solved terms' marks' {k} at =
+      pub clash_first : {k : ℕ} → EquationAt starts e n k → FirstClash tb (node_count bs) k
+      clash_first {k} at =
           let below : k < node_count bs = omega (arith, at.below) in
           let from : length (equations tb k) ≤ e = omega (arith, at.from, count_at_law {k = k} (omega arith)) in
           let to : e < length (equations tb (suc k)) = omega (arith, at.to, count_at_law {k = suc k} below) in
           record {
-            inside = omega arith;
-            clash = λ _. record {
-              below = below;
-              typing = part_typable r ev em {e = e} {j = k} (omega arith) from ts marks found.2 found.3;
-              none = clash_none r ev em {e = e} {j = k} below to found.1;
-            };
-            solved = λ s. absurd (omega arith);
+            below = below;
+            typing = part_typable r ev em {e = e} {j = k} (omega arith) from ts marks x.2 x.3;
+            none = clash_none r ev em {e = e} {j = k} below to x.1;
           }
 
-    module _ {e : ℕ} (q : a ≡ Failed e) where
-      none : NoneTo v (take v shapes) (take m eqns) (min (suc e) (length (take m eqns)))
-      none = subst (λ b. Attempted v (take v shapes) (take m eqns) b ts marks) q x
+    pub none_upto : {e : ℕ} → Comes (Err (UpTo e)) → {k : ℕ} → NodesTo starts e n k → Untypable tb k
+    none_upto {e} none {k} t = go k t.inside t.reach
+      where
+        go : (j : ℕ) → j ≤ n → (j ≡ n) ⊎ ((0 < j) × (e < count_at starts j)) → Untypable tb j
+        go j l (inl s) = subst (λ i. Untypable tb i) (sym (s ∙ en))
+            (part_none r all em ev (λ θ f h. none θ f (λ i g. h i (omega arith))))
+        go zero l (inr w) = absurd (omega (arith, w.0))
+        go (suc j) l (inr w) =
+            let below : j < node_count bs = omega arith in
+            clash_none r ev em {e = e} {j = j} below (omega (arith, w.1, count_at_law {k = suc j} below))
+            (λ θ f h. none θ f (λ i g. h i (omega arith)))
 
-      pub none_upto : {k : ℕ} → NodesTo starts e n k → Untypable tb k
-      none_upto {k} t = go k t.inside t.reach
-        where
-          go : (j : ℕ) → j ≤ n → (j ≡ n) ⊎ ((0 < j) × (e < count_at starts j)) → Untypable tb j
-          go j l (inl s) = subst (λ i. Untypable tb i) (sym (s ∙ en))
-              (part_none r all em ev (λ θ f h. none θ f (λ i g. h i (omega arith))))
-          go zero l (inr w) = absurd (omega (arith, w.0))
-          go (suc j) l (inr w) =
-              let below : j < node_count bs = omega arith in
-              clash_none r ev em {e = e} {j = j} below (omega (arith, w.1, count_at_law {k = suc j} below))
-              (λ θ f h. none θ f (λ i g. h i (omega arith)))
-
-  pub first_solved : (terms' marks' : List ℕ) {k x : ℕ} → k ≤ n → FirstClash tb k x → SolvedTo tb (node_count bs) terms' marks' x
-  first_solved terms' marks' l f = record {
-    inside = omega (arith, f.below);
-    clash = λ _. record { below = omega (arith, f.below); typing = f.typing; none = f.none };
-    solved = λ s. absurd (omega (arith, f.below));
-  }
+  pub first_solved : {k x : ℕ} → k ≤ n → FirstClash tb k x → FirstClash tb (node_count bs) x
+  first_solved l f = record { below = omega (arith, f.below); typing = f.typing; none = f.none }
 
 -- ---- the solved table, for the answer
 module _ {bs shapes eqns starts sheet : List ℕ} (c : Checkable bs sheet) (r : Ready bs shapes eqns starts) {at v : ℕ} (ea : at ≡ nodes_at bs)

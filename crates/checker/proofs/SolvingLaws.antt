@@ -1,31 +1,24 @@
 -- Steps of solving: the copy of the shapes, the search for an equation's node, the answers of merging, and the bisection.
-use Prim.Native.Nat.{ℕ, suc, ◌+◌, ◌-◌, ◌≤◌, ◌<◌}
-use mathlib.Core.Bool.{Bool, true, false, not, true≢false, false≢true}
+use Prim.Native.Nat.{ℕ, zero, suc, ◌+◌, ◌-◌, ◌≤◌, ◌<◌}
+use mathlib.Core.Bool.{Bool, true, false, true≢false, false≢true}
 use mathlib.Core.List.{List}
-use mathlib.Core.Path.{◌≡◌, ap, subst, ◌∙◌}
-use native.Mathlib.Decide.{ℕ_discrete, dec_lt}
-use native.Mathlib.Numerals.{add-one}
+use mathlib.Core.Logic.{◌⊎◌, inl, inr}
+use mathlib.Core.Path.{◌≡◌, sym, ap, subst, ◌∙◌}
+use native.Mathlib.Decide.{dec_lt}
 use native.Mathlib.Omega.{arith}
-use lib.ListN.{get_or, length, take}
-use lib.Seq.{get_or-take, length-take-le}
-use Rattle.rules.specs.Types.{Ty, INTEGER}
+use lib.ListN.{length, take}
+use Rattle.rules.specs.Types.{INTEGER}
 use Rattle.rules.specs.Tables.{Table}
 use Rattle.typing.proofs.Verdicts.{typing_none}
-use Rattle.unification.proofs.Loops.{fill_to, fill_end}
-use Rattle.terms.specs.Words.{Term, known, link, term_of}
-use Rattle.terms.specs.Terms.{Terms, HoldsTo, TermFrom, SaysAlso}
+use Rattle.std.specs.Prelude.{Result, Err}
+use Rattle.terms.specs.Terms.{Terms, HoldsTo, SaysAlso}
 use Rattle.terms.specs.Decided.{Decision}
-use Rattle.classes.specs.declared.Merged.{Merged}
-use Rattle.classes.specs.declared.Merged.TheVariants.{All, Clash, ClashInside}
+use Rattle.terms.proofs.SaysLaws.{says_same}
+use Rattle.classes.specs.declared.Clash.{Clash}
+use Rattle.classes.specs.declared.Clash.TheVariants.{Here, Inside}
 use Rattle.classes.specs.Merging.{MergedAll, Mergeable}
 use Rattle.checker.specs.Solving.{PartRoom, WorkRoom, Typable, Untypable, TypableIs, Satisfiable}
-use Rattle.checker.specs.Solving.{Between, FirstClash, count_at, EquationBelow, EquationAt, is_all}
-
-pub copied : (shapes terms terms' : List ℕ) {i : ℕ} → terms' ≡ fill_to (λ x. get_or shapes x 0) i terms → i ≤ length terms → length terms ≤ i →
-    length terms ≤ length shapes → terms' ≡ take (length terms) shapes
-copied shapes terms terms' {i} e h k l =
-    fill_end (λ x. get_or shapes x 0) i terms terms' (take (length terms) shapes) e h k (length-take-le (length terms) shapes l)
-    (λ v g. get_or-take (length terms) shapes v 0 g)
+use Rattle.checker.specs.Solving.{Between, FirstClash, count_at, EquationBelow, EquationAt, NodesTo}
 
 -- ---- merging the copied shapes
 module _ {n : ℕ} {shapes eqns stack ts : List ℕ} (p : PartRoom n shapes eqns stack) (e : ts ≡ take n shapes) where
@@ -35,31 +28,13 @@ module _ {n : ℕ} {shapes eqns stack ts : List ℕ} (p : PartRoom n shapes eqns
   pub merge_asks : Mergeable (length ts) ts stack eqns
   merge_asks = rw copied_long (rw e (record { terms = p.terms; sides = p.sides; room = p.room }))
 
-  pub merge_gives : (r : Merged) (after : List ℕ) → MergedAll (length ts) ts eqns r after → MergedAll n (take n shapes) eqns r after
+  pub merge_gives : (r : Result (Unit {0}) Clash) (after : List ℕ) → MergedAll (length ts) ts eqns r after → MergedAll n (take n shapes) eqns r after
   merge_gives r after m = subst (λ l. MergedAll n l eqns r after) e (subst (λ k. MergedAll k ts eqns r after) copied_long m)
 
 -- ---- deciding what was merged
-term_through : (n : ℕ) (ts ts₁ : List ℕ) → ((v : ℕ) → v < n → TermFrom n ts (term_of (get_or ts₁ v 0))) → (t : Term) → TermFrom n ts₁ t → TermFrom n ts t
-term_through n ts ts₁ old (known s) (u, l, e) = subst (TermFrom n ts) e (old u l)
-term_through n ts ts₁ old (link u) f = tt
-
-pub says_both : {n : ℕ} {ts ts₁ ts₂ : List ℕ} {P : (ℕ → Ty) → Type 0} → SaysAlso n ts P ts₁ → SaysAlso n ts₁ (λ θ. Unit {0}) ts₂ → SaysAlso n ts P ts₂
-says_both {n} {ts} {ts₁} {ts₂} a b = record {
-  terms = b.terms;
-  iff = λ θ. ((λ x. (b.iff θ).0 ((a.iff θ).0 x, tt)), (λ x. (a.iff θ).1 ((b.iff θ).1 x).0));
-  old = λ v l. term_through n ts ts₁ a.old (term_of (get_or ts₂ v 0)) (b.old v l);
-}
-
-module _ (n : ℕ) (ts eqns after : List ℕ) where
-  pub none_satisfies : (r : Merged) → MergedAll n ts eqns r after → not (is_all r) ≡ true → Satisfiable n ts eqns false
-  none_satisfies All m e = absurd (false≢true e)
-  none_satisfies (Clash i) m e = λ θ s h. m.1 θ s (λ j l. h j (omega (arith, m.0)))
-  none_satisfies (ClashInside i) m e = λ θ s h. m.1 θ s (λ j l. h j (omega (arith, m.0)))
-
-  pub says_all : (r : Merged) → MergedAll n ts eqns r after → not (is_all r) ≡ false → SaysAlso n ts (λ θ. HoldsTo θ eqns (length eqns)) after
-  says_all All m e = m
-  says_all (Clash i) m e = absurd (true≢false e)
-  says_all (ClashInside i) m e = absurd (true≢false e)
+pub clash_satisfies : (n : ℕ) (ts eqns after : List ℕ) (x : Clash) → MergedAll n ts eqns (Err x) after → Satisfiable n ts eqns false
+clash_satisfies n ts eqns after (Here i) m = λ θ s h. m.1 θ s (λ j l. h j (omega (arith, m.0)))
+clash_satisfies n ts eqns after (Inside i) m = λ θ s h. m.1 θ s (λ j l. h j (omega (arith, m.0)))
 
 -- What `decide` takes and gives, with the length of the terms known.
 module _ {n : ℕ} {ts : List ℕ} (t : Terms n ts) where
@@ -71,24 +46,38 @@ module _ {n : ℕ} {ts : List ℕ} (t : Terms n ts) where
 
 pub satisfied_by : (n : ℕ) (ts eqns ts₁ ts₂ marks : List ℕ) → SaysAlso n ts (λ θ. HoldsTo θ eqns (length eqns)) ts₁ → (b : Bool) →
     Decision n ts₁ ts₂ marks b → Satisfiable n ts eqns b
-satisfied_by n ts eqns ts₁ ts₂ marks s true d = (ts₂, marks, says_both s d.0, d.1)
+satisfied_by n ts eqns ts₁ ts₂ marks s true d = (ts₂, marks, says_same s d.0, d.1)
 satisfied_by n ts eqns ts₁ ts₂ marks s false d = λ θ x h. d θ ((s.iff θ).0 (x, h))
 
 -- ---- the node of an equation
-module _ {starts : List ℕ} {e n : ℕ} (q : EquationBelow starts e n) {k : ℕ} (h : k ≤ n) (l : count_at starts k ≤ e) where
-  pub not_end : k < n
-  not_end = go (ℕ_discrete k n)
+module _ {starts : List ℕ} {e n k : ℕ} (q : EquationBelow starts e n) (t : NodesTo starts e n k) where
+  pub some_node : 0 < k
+  some_node = go t.reach (dec_lt 0 k)
     where
-      go : Dec (k ≡ n) → k < n
-      go (yes s) = let m : count_at starts n ≤ e = subst (λ j. count_at starts j ≤ e) s l in absurd (omega (arith, m, q.ends))
-      go (no s) = omega arith
+      none : k ≡ 0 → k ≡ n → ⊥
+      none z s =
+          let y : count_at starts n ≤ e = subst (λ j. count_at starts j ≤ e) (sym z ∙ s) q.begins in
+          omega (arith, y, q.ends)
 
-  pub node_found : {c : ℕ} → c ≡ count_at starts (k + 1) → (c ≤ e → ⊥) → EquationAt starts e n k
-  node_found {c} s f = record {
-    below = not_end;
-    from = l;
-    to = subst (λ j. e < count_at starts j) (add-one k) (omega (arith, s, f));
+      go : (k ≡ n) ⊎ ((0 < k) × (e < count_at starts k)) → Dec (0 < k) → 0 < k
+      go r (yes l) = l
+      go (inl s) (no g) = absurd (none (omega arith) s)
+      go (inr w) (no g) = w.0
+
+  pub node_found : EquationAt starts e n (k - 1)
+  node_found = let y : suc (k - 1) ≡ k = omega (arith, some_node) in record {
+    below = omega (arith, some_node, t.inside);
+    from = go (k - 1) (omega (arith, some_node));
+    to = rw y (reached t.reach);
   }
+    where
+      go : (j : ℕ) → j < k → count_at starts j ≤ e
+      go zero l = q.begins
+      go (suc j) l = t.fewer j l
+
+      reached : (k ≡ n) ⊎ ((0 < k) × (e < count_at starts k)) → e < count_at starts k
+      reached (inl s) = subst (λ j. e < count_at starts j) (sym s) q.ends
+      reached (inr w) = w.1
 
 -- ---- the bisection: it starts, goes on with either answer for the nodes below m, and ends
 typable_none : (tb : Table) → Typable tb 0

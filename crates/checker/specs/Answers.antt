@@ -1,17 +1,16 @@
 -- The number and the place, in the terms of document 01, of what `check` answers, and what its internal functions say.
-use Rattle.std.specs.Prelude.{ℕ, List, ◌≡◌, length}
+use Rattle.std.specs.Prelude.{ℕ, List, ◌≡◌, length, Result, Ok, Err}
 use Rattle.rules.specs.Ends.{End, done, refused}
 use Rattle.rules.specs.Tables.{table_of}
 use Rattle.rules.specs.Reading.{reading}
 use Rattle.rules.specs.Verdict.{Verdict, sheet_after, sheet_length}
+use Rattle.reading.specs.declared.Refusal.{Refusal}
 use Rattle.sheets.specs.Rows.{PlacesIn}
 use Rattle.checker.specs.Solving.{SolvedBelow}
-use Rattle.checker.specs.declared.Checked.{Checked}
-use Rattle.checker.specs.declared.Checked.TheVariants.{Accepted, Refused}
 
-abbrev pub answer_of : Checked → End (Unit {0})
-answer_of Accepted = done tt
-answer_of (Refused r) = refused r.number r.place
+abbrev pub answer_of : Result (Unit {0}) Refusal → End (Unit {0})
+answer_of (Ok _) = done tt
+answer_of (Err r) = refused r.number r.place
 
 -- An answer without the rows.
 abbrev pub answered : End (List ℕ) → End (Unit {0})
@@ -19,7 +18,7 @@ answered (done rows) = done tt
 answered (refused r p) = refused r p
 
 -- The answer and the sheet at exit are those of a verdict that document 01 describes.
-pub record Told (bs sheet : List ℕ) (r : Checked) (after : List ℕ) : Type 0 where
+pub record Told (bs sheet : List ℕ) (r : Result (Unit {0}) Refusal) (after : List ℕ) : Type 0 where
   pub verdict : End (List ℕ)
   pub described : Verdict bs (length sheet) verdict
   pub answer : answer_of r ≡ answered verdict

@@ -1,5 +1,5 @@
 -- The constraints of the nodes below k: what solving them takes, and what the answers say of the table.
-use Rattle.std.specs.Prelude.{ℕ, suc, ◌+◌, ◌*◌, ◌/◌, ◌<◌, ◌≤◌, Bool, true, false, List, ◌↔◌, ◌⊎◌, ◌≡◌, get_or, length, take}
+use Rattle.std.specs.Prelude.{ℕ, suc, ◌+◌, ◌*◌, ◌/◌, ◌<◌, ◌≤◌, Bool, true, false, List, ◌↔◌, ◌⊎◌, ◌≡◌, get_or, length, take, Result, Ok, Err}
 use Rattle.rules.specs.Types.{Ty}
 use Rattle.rules.specs.Tables.{Table, table_of, node_count}
 use Rattle.rules.specs.Readable.{Readable}
@@ -10,8 +10,6 @@ use Rattle.terms.specs.Words.{term_of}
 use Rattle.terms.specs.Terms.{Terms, Satisfies, HoldsTo, SidesBelow, SaysAlso}
 use Rattle.terms.specs.Decided.{TermDeclared, Decided}
 use Rattle.typing.specs.Equations.{base, shape_at, equations}
-use Rattle.classes.specs.declared.Merged.{Merged}
-use Rattle.classes.specs.declared.Merged.TheVariants.{All, Clash, ClashInside}
 use Rattle.constraints.specs.Constrained.{NodeRoom, Constrained}
 
 -- The arrays hold the constraints of the readable table bs.
@@ -25,6 +23,17 @@ pub record WorkRoom (bs terms stack marks : List ℕ) : Type 0 where
   pub terms_room : 32 + 6 * node_count bs ≤ length terms
   pub stack_room : 34 + 6 * node_count bs ≤ length stack
   pub marks_room : 32 + 6 * node_count bs ≤ length marks
+
+-- Work arrays of these sizes have room for n nodes, and are no larger than those for 512.
+pub record SizesFit (n variables equations starts stack : ℕ) : Type 0 where
+  pub variables_fit : 32 + 6 * n ≤ variables
+  pub equations_fit : 2 * n ≤ equations
+  pub starts_fit : n < starts
+  pub stack_fit : 34 + 6 * n ≤ stack
+  pub few_variables : variables ≤ 3104
+  pub few_equations : equations ≤ 1024
+  pub few_starts : starts ≤ 513
+  pub few_stacked : stack ≤ 3106
 
 -- What merging the first n shapes with equations takes: they are terms, the equations are between them, and the stack has room.
 pub record PartRoom (n : ℕ) (shapes eqns stack : List ℕ) : Type 0 where
@@ -78,21 +87,11 @@ pub record EquationAt (starts : List ℕ) (e n k : ℕ) : Type 0 where
   pub from : count_at starts k ≤ e
   pub to : e < count_at starts (suc k)
 
--- What merging came to.
-abbrev pub is_all : Merged → Bool
-is_all All = true
-is_all (Clash e) = false
-is_all (ClashInside e) = false
-
-abbrev pub is_inside : Merged → Bool
-is_inside All = false
-is_inside (Clash e) = false
-is_inside (ClashInside e) = true
-
--- k nodes have equation e, or k is n and they have not.
+-- k nodes have equation e, or k is n and they have not; fewer nodes have it not.
 pub record NodesTo (starts : List ℕ) (e n k : ℕ) : Type 0 where
   pub inside : k ≤ n
   pub reach : (k ≡ n) ⊎ ((0 < k) × (e < count_at starts k))
+  pub fewer : (j : ℕ) → suc j < k → count_at starts (suc j) ≤ e
 
 -- The constraints of the nodes below k are decided: the types that satisfy the terms are their solutions.
 pub record SolvedBelow (tb : Table) (k : ℕ) (ts marks : List ℕ) : Type 0 where
@@ -102,8 +101,7 @@ pub record SolvedBelow (tb : Table) (k : ℕ) (ts marks : List ℕ) : Type 0 whe
   pub leaves : (G : ℕ) → ((v : ℕ) → v < base tb k → LeafDeclared G (shape_at tb v)) → (v : ℕ) → v < base tb k →
       TermDeclared G (term_of (get_or ts v 0))
 
--- The first node whose rule leaves no typing, or the number of nodes with the table solved.
-pub record SolvedTo (tb : Table) (n : ℕ) (terms marks : List ℕ) (r : ℕ) : Type 0 where
-  pub inside : r ≤ n
-  pub clash : r < n → FirstClash tb n r
-  pub solved : r ≡ n → SolvedBelow tb n (take (base tb n) terms) (take (base tb n) marks)
+-- The table solved, or the first node whose rule leaves no typing.
+abbrev pub SolvedTo : (tb : Table) (n : ℕ) (terms marks : List ℕ) → Result (Unit {0}) ℕ → Type 0
+SolvedTo tb n terms marks (Ok u) = SolvedBelow tb n (take (base tb n) terms) (take (base tb n) marks)
+SolvedTo tb n terms marks (Err k) = FirstClash tb n k

@@ -1,51 +1,55 @@
 // Solves the constraints of a table, and finds the first node whose rule leaves no typing (refusal 11).
-ghost use Rattle.std.specs.Prelude.{◌≡◌, not, ◌+◌, ◌<◌, ◌≤◌, length, take};
+ghost use Rattle.std.specs.Prelude.{◌+◌, ◌<◌, ◌≤◌, ◌≡◌, length, take};
 ghost use Rattle.rules.specs.Tables.{table_of, node_count};
-ghost use Rattle.checker.specs.Solving.{Ready, WorkRoom, TypableIs, Untypable, FirstClash, EquationBelow, EquationAt, SolvedTo};
 ghost use Rattle.classes.specs.Merging.{MergedAll};
-ghost use Rattle.checker.specs.Solving.{PartRoom, Satisfiable, is_all, is_inside, NodesTo};
-ghost use Rattle.checker.specs.Attempts.{failed_as, decided_as, Attempted};
+ghost use Rattle.checker.specs.Solving.{Ready, WorkRoom, TypableIs, Untypable, FirstClash, NodesTo, SolvedTo, PartRoom, Satisfiable};
+ghost use Rattle.checker.specs.Attempts.{Attempted};
 
-use classes::Merged;
+use classes::Clash;
 use constraints::{equation_count, variable};
 
-// What solving all constraints came to: solved; a first equation that clashes, with those before it solved; or an equation up to which there
-// is no solution, the number of equations where that is one of all.
+// A table with its constraints: the shapes of its variables, its equations, and for each node its variable and how many equations come before
+// its own. Solving reads the table's size alone; the contracts speak of its bytes. Tried, and the proof didn't close: `Ready` as a ghost field,
+// which has to be a proposition, and what a readable table says goes by cases.
+#[derive(Clone, Copy)]
+pub(crate) struct Problem<'a> {
+    pub(crate) table: &'a [u8],
+    pub(crate) shapes: &'a [u32],
+    pub(crate) equations: &'a [u32],
+    pub(crate) starts: &'a [u32],
+}
+
+// Where they are solved: the terms of the variables and their marks, and a stack. `WorkRoom` stays a clause of each function: a ghost field
+// beside a `&mut` is not covered. Terms and marks stay two arrays: callees take one without the other, and a struct of both takes 8 bytes for 5.
 #[derive(Drop)]
-pub(crate) enum Attempt {
-    Solved,
-    Clash(usize),
-    Failed(usize),
+pub(crate) struct Work<'a> {
+    pub(crate) terms: &'a mut [u32],
+    pub(crate) stack: &'a mut [u32],
+    pub(crate) marks: &'a mut [u8],
 }
 
-// The first terms are the shapes.
-fn copy(shapes: &[u32], terms: &mut [u32])
-    requires { length terms.old ≤ length shapes.now }
-    ensures { terms.new ≡ take (length terms.old) shapes.now }
-{
-    let mut i: usize = 0;
-    while i < terms.len() {
-        terms[i] = shapes[i];
-        i += 1;
-    }
+// Why there is no solution: an equation is the first that clashes, and those before it are solved; or there is none up to an equation, the
+// number of equations where that is one of all: an Option is no plainer, since the bisection takes this number as a bound.
+#[derive(Clone, Copy)]
+enum Unsolved {
+    At(usize),
+    UpTo(usize),
 }
 
-fn clashes(merged: Merged) -> bool
-    ensures { result ≡ not (is_all merged) }
-{
-    match merged {
-        Merged::All => false,
-        Merged::Clash(_) => true,
-        Merged::ClashInside(_) => true,
-    }
-}
+// The slices that this one, `satisfiable` and `solve_shapes` take are no Problem and Work: they are the parts of those below a node.
 
 // The terms of the shapes with the equations, as far as these go without a clash.
-fn merge_shapes(shapes: &[u32], equations: &[u32], terms: &mut [u32], stack: &mut [u32]) -> Merged
+fn merge_shapes(
+    shapes: &[u32],
+    equations: &[u32],
+    terms: &mut [u32],
+    stack: &mut [u32],
+) -> Result<(), Clash>
     requires { PartRoom (length terms.old) shapes.now equations.now stack.old }
     ensures { MergedAll (length terms.old) (take (length terms.old) shapes.now) equations.now result terms.new }
 {
-    copy(shapes, terms);
+    let n = terms.len();
+    terms.copy_from_slice(&shapes[..n]);
     classes::merge_all(terms, stack, equations)
 }
 
@@ -60,37 +64,28 @@ fn satisfiable(
     requires { PartRoom (length terms.old) shapes.now equations.now stack.old × (length marks.old ≡ length terms.old) }
     ensures { Satisfiable (length terms.old) (take (length terms.old) shapes.now) equations.now result }
 {
-    let merged = merge_shapes(shapes, equations, terms, stack);
-    if clashes(merged) {
-        return false;
+    match merge_shapes(shapes, equations, terms, stack) {
+        Ok(()) => deciding::decide(terms, marks, stack),
+        Err(_) => false,
     }
-    deciding::decide(terms, marks, stack)
 }
 
-// Whether the rules of the nodes below k have a typing. The table stands here for the contract only.
-fn typable(
-    table: &[u8],
-    shapes: &[u32],
-    equations: &[u32],
-    starts: &[u32],
-    terms: &mut [u32],
-    stack: &mut [u32],
-    marks: &mut [u8],
-    k: usize,
-) -> bool
-    requires ready { Ready table.now shapes.now equations.now starts.now }
-    requires work_room { WorkRoom table.now terms.old stack.old marks.old }
-    requires k_bound { k ≤ node_count table.now }
-    ensures { TypableIs (table_of table.now) k result }
+// Whether the rules of the nodes below k have a typing.
+fn typable(problem: Problem, work: &mut Work, k: usize) -> bool
+    requires ready { Ready problem.table.now problem.shapes.now problem.equations.now problem.starts.now }
+    requires work_room { WorkRoom problem.table.now work.old.terms.now work.old.stack.now work.old.marks.now }
+    requires k_bound { k ≤ node_count problem.table.now }
+    ensures typable { TypableIs (table_of problem.entry.table.now) k result }
+    ensures work_room { WorkRoom problem.entry.table.now work.new.terms.now work.new.stack.now work.new.marks.now }
 {
-    let v = variable(starts, k);
-    let m = equation_count(starts, k);
+    let v = variable(problem.starts, k);
+    let m = equation_count(problem.starts, k);
     satisfiable(
-        shapes,
-        &equations[..m],
-        &mut terms[..v],
-        stack,
-        &mut marks[..v],
+        problem.shapes,
+        &problem.equations[..m],
+        &mut work.terms[..v],
+        work.stack,
+        &mut work.marks[..v],
     )
 }
 
@@ -107,28 +102,20 @@ fn middle(lo: usize, hi: usize, n: usize) -> usize
 
 // The first node whose rule leaves no typing, where the nodes below n have none. The nodes below lo always have a typing,
 // those below hi none.
-fn first_clash(
-    table: &[u8],
-    shapes: &[u32],
-    equations: &[u32],
-    starts: &[u32],
-    terms: &mut [u32],
-    stack: &mut [u32],
-    marks: &mut [u8],
-    n: usize,
-) -> usize
-    requires ready { Ready table.now shapes.now equations.now starts.now }
-    requires work_room { WorkRoom table.now terms.old stack.old marks.old }
-    requires n_bound { n ≤ node_count table.now }
-    requires untypable { Untypable (table_of table.now) n }
-    ensures { FirstClash (table_of table.now) n result }
+fn first_clash(problem: Problem, work: &mut Work, n: usize) -> usize
+    requires ready { Ready problem.table.now problem.shapes.now problem.equations.now problem.starts.now }
+    requires work_room { WorkRoom problem.table.now work.old.terms.now work.old.stack.now work.old.marks.now }
+    requires n_bound { n ≤ node_count problem.table.now }
+    requires untypable { Untypable (table_of problem.table.now) n }
+    ensures first { FirstClash (table_of problem.entry.table.now) n result }
+    ensures work_room { WorkRoom problem.entry.table.now work.new.terms.now work.new.stack.now work.new.marks.now }
 {
+    // std's binary searches go over slices, and these are numbers of nodes.
     let mut lo: usize = 0;
     let mut hi: usize = n;
     while hi - lo > 1 {
         let mid = middle(lo, hi, n);
-        let ok = typable(table, shapes, equations, starts, terms, stack, marks, mid);
-        if ok {
+        if typable(problem, work, mid) {
             lo = mid;
         } else {
             hi = mid;
@@ -137,63 +124,15 @@ fn first_clash(
     lo
 }
 
-// The node of equation e, which is one of the nodes below n.
-fn node_of(starts: &[u32], e: usize, n: usize) -> usize
-    requires { EquationBelow starts.now e n }
-    ensures { EquationAt starts.now e n result }
-{
-    let mut k: usize = 0;
-    while equation_count(starts, k + 1) <= e {
-        k += 1;
-    }
-    k
-}
-
 // The number of nodes up to the one of equation e, at most n.
 fn nodes_to(starts: &[u32], e: usize, n: usize) -> usize
     requires { n < length starts.now }
     ensures { NodesTo starts.now e n result }
 {
-    let mut k: usize = 0;
-    while k < n {
-        k += 1;
-        if e < equation_count(starts, k) {
-            return k;
-        }
-    }
-    n
-}
-
-fn is_inside(merged: Merged) -> bool
-    ensures { result ≡ is_inside merged }
-{
-    match merged {
-        Merged::All => false,
-        Merged::Clash(_) => false,
-        Merged::ClashInside(_) => true,
-    }
-}
-
-// What a failed attempt came to, where there are m equations.
-fn failed(merged: Merged, m: usize) -> Attempt
-    ensures { result ≡ failed_as merged m }
-{
-    match merged {
-        Merged::All => Attempt::Failed(m),
-        Merged::Clash(e) => Attempt::Failed(e),
-        Merged::ClashInside(e) => Attempt::Failed(e),
-    }
-}
-
-// What an attempt came to whose terms are decided.
-fn decided(merged: Merged) -> Attempt
-    ensures { result ≡ decided_as merged }
-{
-    match merged {
-        Merged::All => Attempt::Solved,
-        Merged::Clash(e) => Attempt::Clash(e),
-        Merged::ClashInside(e) => Attempt::Failed(e),
-    }
+    let Some(k) = (0..n).find(|k| e < equation_count(starts, *k + 1)) else {
+        return n;
+    };
+    k + 1
 }
 
 // Solves the shapes with all equations, or with those before the first that clashes.
@@ -203,51 +142,50 @@ fn solve_shapes(
     terms: &mut [u32],
     stack: &mut [u32],
     marks: &mut [u8],
-) -> Attempt
+) -> Result<(), Unsolved>
     requires { PartRoom (length terms.old) shapes.now equations.now stack.old × (length marks.old ≡ length terms.old) }
     ensures { Attempted (length terms.old) (take (length terms.old) shapes.now) equations.now result
         terms.new marks.new }
 {
-    let merged = merge_shapes(shapes, equations, terms, stack);
-    if is_inside(merged) {
-        return failed(merged, equations.len());
+    match merge_shapes(shapes, equations, terms, stack) {
+        Ok(()) => {
+            if deciding::decide(terms, marks, stack) {
+                return Ok(());
+            }
+            Err(Unsolved::UpTo(equations.len()))
+        }
+        Err(Clash::Here(e)) => {
+            if deciding::decide(terms, marks, stack) {
+                return Err(Unsolved::At(e));
+            }
+            Err(Unsolved::UpTo(e))
+        }
+        Err(Clash::Inside(e)) => Err(Unsolved::UpTo(e)),
     }
-    if !deciding::decide(terms, marks, stack) {
-        return failed(merged, equations.len());
-    }
-    decided(merged)
 }
 
-// The first node whose rule leaves no typing, or the number of nodes with the terms and marks of the whole table.
-pub(crate) fn solve(
-    table: &[u8],
-    shapes: &[u32],
-    equations: &[u32],
-    starts: &[u32],
-    terms: &mut [u32],
-    stack: &mut [u32],
-    marks: &mut [u8],
-) -> usize
-    requires ready { Ready table.now shapes.now equations.now starts.now }
-    requires work_room { WorkRoom table.now terms.old stack.old marks.old }
-    ensures { SolvedTo (table_of table.now) (node_count table.now) terms.new marks.new result }
+// The terms and marks of the whole table, or the first node whose rule leaves no typing.
+pub(crate) fn solve(problem: Problem, work: &mut Work) -> Result<(), usize>
+    requires ready { Ready problem.table.now problem.shapes.now problem.equations.now problem.starts.now }
+    requires work_room { WorkRoom problem.table.now work.old.terms.now work.old.stack.now work.old.marks.now }
+    ensures solved { SolvedTo (table_of problem.entry.table.now) (node_count problem.entry.table.now) work.new.terms.now work.new.marks.now result }
+    ensures work_room { WorkRoom problem.entry.table.now work.new.terms.now work.new.stack.now work.new.marks.now }
 {
-    let n = table::nodes(table);
-    let v = variable(starts, n);
-    let m = equation_count(starts, n);
-    let attempt = solve_shapes(
-        shapes,
-        &equations[..m],
-        &mut terms[..v],
-        stack,
-        &mut marks[..v],
-    );
-    match attempt {
-        Attempt::Solved => n,
-        Attempt::Clash(e) => node_of(starts, e, n),
-        Attempt::Failed(e) => {
-            let hi = nodes_to(starts, e, n);
-            first_clash(table, shapes, equations, starts, terms, stack, marks, hi)
+    let n = table::nodes(problem.table);
+    let v = variable(problem.starts, n);
+    let m = equation_count(problem.starts, n);
+    match solve_shapes(
+        problem.shapes,
+        &problem.equations[..m],
+        &mut work.terms[..v],
+        work.stack,
+        &mut work.marks[..v],
+    ) {
+        Ok(()) => Ok(()),
+        Err(Unsolved::At(e)) => Err(nodes_to(problem.starts, e, n) - 1),
+        Err(Unsolved::UpTo(e)) => {
+            let hi = nodes_to(problem.starts, e, n);
+            Err(first_clash(problem, work, hi))
         }
     }
 }

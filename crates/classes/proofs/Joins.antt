@@ -14,10 +14,11 @@ use Rattle.unification.specs.Codes.{AtomCode}
 use Rattle.unification.proofs.Counting.{count_strict}
 use Rattle.terms.specs.Words.{word_form, word_left, word_right, term_from, term_of, LinkWord}
 use Rattle.terms.specs.Terms.{TermIn, Terms, MeetsTerm, Satisfies, TermFrom}
+use Rattle.terms.proofs.SaysLaws.{from_self}
 use Rattle.terms.proofs.TermLaws.{term_known}
 use Rattle.classes.specs.Finding.{shape_form, class_count}
-use Rattle.classes.specs.Joining.{Leaves, first_open, second_open, one_atom, two_powers, two_products, two_forms, two_atoms, known_word, PartsEqual, Joined}
-use Rattle.classes.proofs.Shortening.{set_each, along, meets_link, link_in, from_self, shape_true, link_false}
+use Rattle.classes.specs.Joining.{Leaves, first_open, second_open, one_atom, two_powers, two_products, Clashes, two_forms, two_atoms, known_word, PartsEqual, Joined}
+use Rattle.classes.proofs.Shortening.{set_each, along, meets_link, link_in, shape_true, link_false}
 
 abbrev pub MeetsWord : (ℕ → Ty) → ℕ → Ty → Type 0
 MeetsWord θ w t = MeetsTerm θ (term_of w) t
@@ -76,39 +77,29 @@ atom_same : {c d : ℕ} (τ : Ty) → AtomCode c → AtomCode d → τ ≡ atom 
 atom_same {c} {d} τ h k p q = let e : atom_from c ≡ atom_from d = cc in sym (code_named c h) ∙ ap atom_code e ∙ code_named d k
 
 -- ---- what two words leave
-module _ {s t c : ℕ} where
-  pub leaves_small : Leaves s t c → c ≢ 3 → c ≤ 2
-  leaves_small (first_open e f) ne = omega arith
-  leaves_small (second_open e g) ne = omega arith
-  leaves_small (one_atom e f g l) ne = omega arith
-  leaves_small (two_powers e f g) ne = omega arith
-  leaves_small (two_products e f g) ne = omega arith
-  leaves_small (two_forms e f g o) ne = absurd (ne e)
-  leaves_small (two_atoms e f g o) ne = absurd (ne e)
+module _ {s t : ℕ} where
+  pub leaves_small : {c : ℕ} → Leaves s t c → c ≤ 2
+  leaves_small (first_open e f) = omega arith
+  leaves_small (second_open e g) = omega arith
+  leaves_small (one_atom e f g l) = omega arith
+  leaves_small (two_powers e f g) = omega arith
+  leaves_small (two_products e f g) = omega arith
 
   module _ {n v u : ℕ} (a : TermIn n v s) (b : TermIn n u t) where
-    pub leaves_clash : Leaves s t c → c ≡ 3 → word_form s ≤ 3 → word_form t ≤ 3 → (θ : ℕ → Ty) (τ : Ty) → MeetsWord θ s τ → MeetsWord θ t τ → ⊥
-    leaves_clash (first_open e f) ce hs ht θ τ m k = omega arith
-    leaves_clash (second_open e g) ce hs ht θ τ m k = omega arith
-    leaves_clash (one_atom e f g l) ce hs ht θ τ m k = omega arith
-    leaves_clash (two_powers e f g) ce hs ht θ τ m k = omega arith
-    leaves_clash (two_products e f g) ce hs ht θ τ m k = omega arith
-    leaves_clash (two_forms e f g o) ce hs ht θ τ m k = o (kind_is θ s τ f hs m ∙ sym (kind_is θ t τ g ht k))
-    leaves_clash (two_atoms e f g o) ce hs ht θ τ m k = o (atom_same τ (a.code f) (b.code g) (rw (term_at s f) at m) (rw (term_at t g) at k))
+    pub leaves_clash : Clashes s t → word_form s ≤ 3 → word_form t ≤ 3 → (θ : ℕ → Ty) (τ : Ty) → MeetsWord θ s τ → MeetsWord θ t τ → ⊥
+    leaves_clash (two_forms f g o) hs ht θ τ m k = o (kind_is θ s τ f hs m ∙ sym (kind_is θ t τ g ht k))
+    leaves_clash (two_atoms f g o) hs ht θ τ m k = o (atom_same τ (a.code f) (b.code g) (rw (term_at s f) at m) (rw (term_at t g) at k))
 
     -- The parts that are to be equal are variables.
-    pub leaves_parts : Leaves s t c → c ≢ 3
-        → (0 < c → (word_left s < n) × (word_left t < n)) × (1 < c → (word_right s < n) × (word_right t < n))
-    leaves_parts (first_open e f) ne = ((λ l. absurd (omega arith)), (λ l. absurd (omega arith)))
-    leaves_parts (second_open e g) ne = ((λ l. absurd (omega arith)), (λ l. absurd (omega arith)))
-    leaves_parts (one_atom e f g l) ne = ((λ l. absurd (omega arith)), (λ l. absurd (omega arith)))
-    leaves_parts (two_powers e f g) ne =
+    pub leaves_parts : {c : ℕ} → Leaves s t c → (0 < c → (word_left s < n) × (word_left t < n)) × (1 < c → (word_right s < n) × (word_right t < n))
+    leaves_parts (first_open e f) = ((λ l. absurd (omega arith)), (λ l. absurd (omega arith)))
+    leaves_parts (second_open e g) = ((λ l. absurd (omega arith)), (λ l. absurd (omega arith)))
+    leaves_parts (one_atom e f g l) = ((λ l. absurd (omega arith)), (λ l. absurd (omega arith)))
+    leaves_parts (two_powers e f g) =
         ((λ l. (rw (term_at s f) at a.parts, rw (term_at t g) at b.parts)), (λ l. absurd (omega arith)))
-    leaves_parts (two_products e f g) ne =
+    leaves_parts (two_products e f g) =
         let x = rw (term_at s f) at a.parts in
         let y = rw (term_at t g) at b.parts in ((λ l. (x.0, y.0)), (λ l. (x.1, y.1)))
-    leaves_parts (two_forms e f g o) ne = absurd (ne e)
-    leaves_parts (two_atoms e f g o) ne = absurd (ne e)
 
 -- The parts of nothing are equal.
 none_equal : (θ : ℕ → Ty) (s t : ℕ) {c : ℕ} → c ≡ 0 → PartsEqual θ s t c
@@ -126,19 +117,17 @@ module _ (θ : ℕ → Ty) (τ : Ty) (s t : ℕ) {c : ℕ} where
   both_second e g (no f) = rw (known_first s t f, term_at t g) ((λ h. (h.0, none_equal θ s t e)), (λ h. (h.0, tt)))
 
   -- Both words say what the merged class's word and the equal parts say.
-  pub leaves_both : Leaves s t c → c ≢ 3 → Both θ s t c τ
-  leaves_both (first_open e f) ne = both_first e f
-  leaves_both (second_open e g) ne = both_second e g (ℕ_discrete (word_form s) 0)
-  leaves_both (one_atom e f g l) ne =
+  pub leaves_both : Leaves s t c → Both θ s t c τ
+  leaves_both (first_open e f) = both_first e f
+  leaves_both (second_open e g) = both_second e g (ℕ_discrete (word_form s) 0)
+  leaves_both (one_atom e f g l) =
       rw (known_first s t (omega arith), term_at s f, term_at t g) ((λ h. (h.0, none_equal θ s t e)), (λ h. (h.0, h.0 ∙ ap (λ x. atom (atom_from x)) l)))
-  leaves_both (two_powers e f g) ne =
+  leaves_both (two_powers e f g) =
       rw (known_first s t (omega arith), term_at s f, term_at t g)
       ((λ h. (h.0, ((λ l. cc), (λ l. absurd (omega arith))))), (λ h. (h.0, h.0 ∙ ap POW (h.1.0 (omega arith)))))
-  leaves_both (two_products e f g) ne =
+  leaves_both (two_products e f g) =
       rw (known_first s t (omega arith), term_at s f, term_at t g)
       ((λ h. (h.0, ((λ l. cc), (λ l. cc)))), (λ h. let x = h.1.0 (omega arith) in let y = h.1.1 (omega arith) in (h.0, cc)))
-  leaves_both (two_forms e f g o) ne = absurd (ne e)
-  leaves_both (two_atoms e f g o) ne = absurd (ne e)
 
 -- ---- the words of the merged class
 swap : {A B C : Type 0} → (A × B) ↔ C → (B × A) ↔ C
@@ -235,7 +224,7 @@ term_any {n} {v} u {w} h a = record { form = a.form; code = a.code; parts = rw (
 
 module _ {n : ℕ} {ts : List ℕ} (t : Terms n ts) {p q c : ℕ} (ts' : List ℕ) (hp : p < n) (hq : q < n)
     (sp : word_form (get_or ts p 0) ≤ 3) (sq : word_form (get_or ts q 0) ≤ 3)
-    (j : Joined ts p q (known_word (get_or ts p 0) (get_or ts q 0)) ts') (l : Leaves (get_or ts p 0) (get_or ts q 0) c) (small : c ≢ 3) where
+    (j : Joined ts p q (known_word (get_or ts p 0) (get_or ts q 0)) ts') (l : Leaves (get_or ts p 0) (get_or ts q 0) c) where
   abbrev s : ℕ
   s = get_or ts p 0
 
@@ -257,9 +246,9 @@ module _ {n : ℕ} {ts : List ℕ} (t : Terms n ts) {p q c : ℕ} (ts' : List �
           let low : min p q ≡ p = omega arith in
           let high : max p q ≡ q = omega arith in
           rw (j.is, low, high) (join_low t p q j.word (known_word s r) y hq (subst (LinkWord j.word) low j.links) (λ θ. PartsEqual θ s r c)
-          (λ θ τ. leaves_both θ τ s r l small) sp sq (known_in p) known_from)
+          (λ θ τ. leaves_both θ τ s r l) sp sq (known_in p) known_from)
       go (no y) =
           let low : min p q ≡ q = omega arith in
           let high : max p q ≡ p = omega arith in
           rw (j.is, low, high) (joins_swap (join_low t q p j.word (known_word s r) (omega arith) hp (subst (LinkWord j.word) low j.links)
-          (λ θ. PartsEqual θ s r c) (λ θ τ. swap (leaves_both θ τ s r l small)) sq sp (known_in q) known_from))
+          (λ θ. PartsEqual θ s r c) (λ θ τ. swap (leaves_both θ τ s r l)) sq sp (known_in q) known_from))

@@ -10,10 +10,13 @@ use lib.ListN.{get_or, set, length, length-set}
 use lib.Seq.{get_or-set_same, get_or-set_other}
 use Rattle.rules.specs.Types.{Ty}
 use Rattle.unification.proofs.Counting.{count_mono}
-use Rattle.terms.specs.Words.{Term, known, link, word_form, word_right, term_of}
+use Rattle.terms.specs.Words.{word_form, word_right, term_of}
 use Rattle.terms.specs.Terms.{TermIn, Terms, MeetsTerm, Satisfies, TermFrom, SaysAlso}
-use Rattle.terms.proofs.TermLaws.{term_link, link_below, form_known}
-use Rattle.classes.specs.Finding.{KeptOrLink, Shortened, LinksLead, ClassFound, shape_form, class_count}
+use Rattle.terms.specs.Decoding.{TermIs}
+use Rattle.terms.specs.declared.Term.TheVariants.{Link}
+use Rattle.terms.proofs.SaysLaws.{from_self}
+use Rattle.terms.proofs.TermLaws.{term_link, link_below, form_link}
+use Rattle.classes.specs.Finding.{KeptOrLink, Shortened, LinksLead, shape_form, class_count}
 
 -- What holds of the word that is set and of the others holds of all.
 pub set_each : (P : ℕ → ℕ → Type 0) {n : ℕ} (l : List ℕ) (x w : ℕ) → x < length l → P x w → ((v : ℕ) → v < n → v ≢ x → P v (get_or l v 0))
@@ -97,11 +100,6 @@ shape_kept f (inr k) = absurd (omega (arith, k.0))
 pub class_kept : {n : ℕ} {ts ts' : List ℕ} → Shortened n ts ts' → {v : ℕ} → v < n → word_form (get_or ts v 0) ≤ 3 → word_form (get_or ts' v 0) ≤ 3
 class_kept a {v} k f = subst (λ x. word_form x ≤ 3) (sym (shape_kept f (a.each v k))) f
 
--- A shape is from where its word stood.
-pub from_self : {n : ℕ} (ts : List ℕ) (x : Term) (u : ℕ) → u < n → term_of (get_or ts u 0) ≡ x → TermFrom n ts x
-from_self ts (known s) u k e = (u, k, e)
-from_self ts (link y) u k e = tt
-
 kept_from : {n : ℕ} (ts : List ℕ) {v : ℕ} (w : ℕ) → v < n → KeptOrLink (get_or ts v 0) w → TermFrom n ts (term_of w)
 kept_from ts {v} w k (inl e) = from_self ts (term_of w) v k (ap term_of (sym e))
 kept_from ts w k (inr l) = rw (term_link w l.1) tt
@@ -130,36 +128,33 @@ shortened_count {n} {ts} {ts'} a = count_mono _ _ n (λ v k e. go v e (a.each v 
     go v e (inl k) = subst (λ x. shape_form (word_form x) ≡ true) k e
     go v e (inr k) = absurd (true≢false (sym e ∙ link_false (word_form (get_or ts' v 0)) k.1))
 
-pub lead_start : {n : ℕ} {ts : List ℕ} {v : ℕ} → Terms n ts → v < n → LinksLead n ts v ts v
-lead_start t h = record { shortened = shortened_self t; below = h; same = λ θ s. refl }
-
 pub lead_below : {n : ℕ} {ts₀ ts : List ℕ} {v x : ℕ} → LinksLead n ts₀ v ts x → (x < length ts) × (x < 4096)
 lead_below a = (omega (arith, a.shortened.terms.len), omega (arith, a.shortened.terms.small))
 
 -- On to y, where x links to.
-module _ {n : ℕ} {ts₀ ts : List ℕ} {v x y : ℕ} (a : LinksLead n ts₀ v ts x) (f : word_form (get_or ts x 0) ≡ 4) (ye : y ≡ word_right (get_or ts x 0)) where
+module _ {n : ℕ} {ts₀ ts : List ℕ} {v x y : ℕ} (a : LinksLead n ts₀ v ts x) (is : TermIs (get_or ts x 0) (Link y)) where
+  link_here : word_form (get_or ts x 0) ≡ 4
+  link_here = form_link a.shortened.terms a.below refl is.0
+
   pub link_less : y < x
-  link_less = omega (arith, link_below a.shortened.terms a.below refl f)
+  link_less = omega (arith, is.1, link_below a.shortened.terms a.below refl link_here)
 
   pub lead_link : LinksLead n ts₀ v ts y
   lead_link = record {
     shortened = a.shortened;
     below = omega (arith, a.below, link_less);
-    same = λ θ s. a.same θ s ∙ along θ x ((a.shortened.iff θ).0 s x a.below) refl f ∙ ap θ (sym ye);
+    same = λ θ s. a.same θ s ∙ along θ x ((a.shortened.iff θ).0 s x a.below) refl link_here ∙ ap θ (sym is.1);
   }
 
 -- Two links on, and the link of x is set past the first.
-pub lead_next : {n : ℕ} {ts₀ ts : List ℕ} {v x y z : ℕ} → LinksLead n ts₀ v ts x → word_form (get_or ts x 0) ≡ 4 → y ≡ word_right (get_or ts x 0)
-    → word_form (get_or ts y 0) ≡ 4 → z ≡ word_right (get_or ts y 0) → LinksLead n ts₀ v (set ts x (get_or ts y 0)) z × (z < x)
-lead_next {x} {y} a f ye g ze =
-    let b = lead_link a f ye in (
+pub lead_next : {n : ℕ} {ts₀ ts : List ℕ} {v x y z : ℕ} → LinksLead n ts₀ v ts x → TermIs (get_or ts x 0) (Link y) → TermIs (get_or ts y 0) (Link z)
+    → LinksLead n ts₀ v (set ts x (get_or ts y 0)) z × (z < x)
+lead_next {x} {y} a is is' =
+    let b = lead_link a is in (
       record {
-        shortened = shortened_trans a.shortened (shorten a.shortened.terms x y a.below f ye g);
-        below = (lead_link b g ze).below;
-        same = (lead_link b g ze).same;
+        shortened = shortened_trans a.shortened (shorten a.shortened.terms x y a.below (link_here a is) is.1 (link_here b is'));
+        below = (lead_link b is').below;
+        same = (lead_link b is').same;
       },
-      omega (arith, link_less a f ye, link_less b g ze),
+      omega (arith, link_less a is, link_less b is'),
     )
-
-pub lead_found : {n : ℕ} {ts₀ ts : List ℕ} {v x : ℕ} → LinksLead n ts₀ v ts x → word_form (get_or ts x 0) ≢ 4 → ClassFound n ts₀ v ts x
-lead_found a f = record { leads = a; shape = form_known a.shortened.terms a.below refl f }

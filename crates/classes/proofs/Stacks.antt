@@ -5,14 +5,15 @@ use mathlib.Core.Logic.{◌≢◌}
 use mathlib.Core.Path.{◌≡◌, refl, sym, ap, ◌∙◌, subst}
 use native.Mathlib.Omega.{arith}
 use native.Mathlib.Decide.{ℕ_discrete, dec_lt}
-use lib.ListN.{get_or, set, length, length-set}
-use lib.Seq.{get_or-set_same, get_or-set_other}
+use lib.ListN.{get_or, length}
 use Rattle.rules.specs.Types.{Ty}
-use Rattle.terms.specs.Words.{Term, known, link, word_form, word_left, word_right, term_of}
-use Rattle.terms.specs.Terms.{TermIn, Terms, Satisfies, TermFrom}
+use Rattle.terms.specs.Words.{word_form, word_left, word_right}
+use Rattle.terms.specs.Terms.{TermIn, Satisfies, SaysAlso}
+use Rattle.terms.proofs.SaysLaws.{old_trans}
+use Rattle.terms.specs.declared.Stack.{Stack}
 use Rattle.classes.specs.Finding.{Shortened, ClassFound}
-use Rattle.classes.specs.Joining.{Leaves, known_word, PartsEqual, Joined, pushed}
-use Rattle.classes.specs.Turning.{Turnable, TurnedTo}
+use Rattle.classes.specs.Joining.{Leaves, Clashes, known_word, PartsEqual, Joined}
+use Rattle.classes.specs.Turning.{SidesAgree, Pushed, Turnable, TurnMerges}
 use Rattle.classes.proofs.Shortening.{shortened_trans, class_kept, shortened_says, shortened_count}
 use Rattle.classes.proofs.Joins.{MeetsWord, leaves_small, leaves_clash, leaves_parts, Joins, join_says}
 
@@ -56,48 +57,30 @@ left_eqn s t = word_left s * 4096 + word_left t
 abbrev right_eqn : ℕ → ℕ → ℕ
 right_eqn s t = word_right s * 4096 + word_right t
 
--- ---- two equations more, of which c count
-module _ (stack : List ℕ) (h s t : ℕ) (room : h + 1 < length stack) where
-  push_below : (i : ℕ) → i < h → get_or (pushed stack h s t) i 0 ≡ get_or stack i 0
-  push_below i l = get_or-set_other (set stack h (left_eqn s t)) (h + 1) i (right_eqn s t) 0 (omega arith) ∙
-      get_or-set_other stack h i (left_eqn s t) 0 (omega arith)
+-- ---- c equations more
+module _ {before after : Stack} {s t c : ℕ} (small : c ≤ 2) (p : Pushed before s t c after) (Q : ℕ → ℕ → Type 0) where
+  push_each : ((i : ℕ) → i < before.height → Sides Q (get_or before.words.now i 0))
+      → (0 < c → Q (word_left s) (word_left t)) × (1 < c → Q (word_right s) (word_right t))
+      → (i : ℕ) → i < before.height + c → Sides Q (get_or after.words.now i 0)
+  push_each below parts i l = go (dec_lt i before.height) (ℕ_discrete i before.height)
+    where
+      go : Dec (i < before.height) → Dec (i ≡ before.height) → Sides Q (get_or after.words.now i 0)
+      go (yes y) d = rw (p.below i y) (below i y)
+      go (no ne) (yes e) = rw (e, p.first (omega arith)) (eqn_to Q (word_left s) (word_left t) (omega arith) (parts.0 (omega arith)))
+      go (no ne) (no o) =
+          let e : i ≡ before.height + 1 = omega arith in
+          rw (e, p.second (omega arith)) (eqn_to Q (word_right s) (word_right t) (omega arith) (parts.1 (omega arith)))
 
-  push_first : get_or (pushed stack h s t) h 0 ≡ left_eqn s t
-  push_first = get_or-set_other (set stack h (left_eqn s t)) (h + 1) h (right_eqn s t) 0 (omega arith) ∙ get_or-set_same stack h (left_eqn s t) 0 (omega arith)
-
-  push_second : get_or (pushed stack h s t) (h + 1) 0 ≡ right_eqn s t
-  push_second = get_or-set_same (set stack h (left_eqn s t)) (h + 1) (right_eqn s t) 0 (rw (length-set stack h (left_eqn s t)) room)
-
-  module _ (Q : ℕ → ℕ → Type 0) (c : ℕ) where
-    push_each : c ≤ 2 → ((i : ℕ) → i < h → Sides Q (get_or stack i 0)) → (0 < c → Q (word_left s) (word_left t)) × (1 < c → Q (word_right s) (word_right t))
-        → (i : ℕ) → i < h + c → Sides Q (get_or (pushed stack h s t) i 0)
-    push_each small below parts i l = go (dec_lt i h) (ℕ_discrete i h)
-      where
-        go : Dec (i < h) → Dec (i ≡ h) → Sides Q (get_or (pushed stack h s t) i 0)
-        go (yes y) d = rw (push_below i y) (below i y)
-        go (no ne) (yes e) = rw (e, push_first) (eqn_to Q (word_left s) (word_left t) (omega arith) (parts.0 (omega arith)))
-        go (no ne) (no o) =
-            let e : i ≡ h + 1 = omega arith in
-            rw (e, push_second) (eqn_to Q (word_right s) (word_right t) (omega arith) (parts.1 (omega arith)))
-
-    push_back : ((i : ℕ) → i < h + c → Sides Q (get_or (pushed stack h s t) i 0))
-        → ((i : ℕ) → i < h → Sides Q (get_or stack i 0)) × ((0 < c → Q (word_left s) (word_left t)) × (1 < c → Q (word_right s) (word_right t)))
-    push_back all = (
-      (λ i l. subst (Sides Q) (push_below i l) (all i (omega arith))),
-      (
-        (λ l. eqn_from_law Q (word_left s) (word_left t) (omega arith) (subst (Sides Q) push_first (all h (omega arith)))),
-        (λ l. eqn_from_law Q (word_right s) (word_right t) (omega arith) (subst (Sides Q) push_second (all (h + 1) (omega arith)))),
-      ),
-    )
-
--- ---- shapes of terms of terms
-from_trans : {n : ℕ} (ts₀ ts : List ℕ) → ((v : ℕ) → v < n → TermFrom n ts₀ (term_of (get_or ts v 0))) → (x : Term) → TermFrom n ts x → TermFrom n ts₀ x
-from_trans {n} ts₀ ts old (known s) f = subst (TermFrom n ts₀) f.2 (old f.0 f.1)
-from_trans ts₀ ts old (link u) f = tt
-
-pub old_trans : {n : ℕ} (ts₀ ts ts' : List ℕ) → ((v : ℕ) → v < n → TermFrom n ts₀ (term_of (get_or ts v 0)))
-    → ((v : ℕ) → v < n → TermFrom n ts (term_of (get_or ts' v 0))) → (v : ℕ) → v < n → TermFrom n ts₀ (term_of (get_or ts' v 0))
-old_trans ts₀ ts ts' a b v l = from_trans ts₀ ts a (term_of (get_or ts' v 0)) (b v l)
+  push_back : ((i : ℕ) → i < before.height + c → Sides Q (get_or after.words.now i 0))
+      → ((i : ℕ) → i < before.height → Sides Q (get_or before.words.now i 0)) × ((0 < c → Q (word_left s) (word_left t)) ×
+      (1 < c → Q (word_right s) (word_right t)))
+  push_back all = (
+    (λ i l. subst (Sides Q) (p.below i l) (all i (omega arith))),
+    (
+      (λ l. eqn_from_law Q (word_left s) (word_left t) (omega arith) (subst (Sides Q) (p.first l) (all before.height (omega arith)))),
+      (λ l. eqn_from_law Q (word_right s) (word_right t) (omega arith) (subst (Sides Q) (p.second l) (all (before.height + 1) (omega arith)))),
+    ),
+  )
 
 -- ---- the classes of the equation e
 pub record BothFound (n : ℕ) (ts : List ℕ) (e : ℕ) (ts' : List ℕ) (p q : ℕ) : Type 0 where
@@ -121,36 +104,31 @@ both_found {n} {b} e {ts'} {ts''} {q} f f' ae be =
       same = λ θ s. (ap θ (sym ae) ∙ f.leads.same θ s, ap θ (sym be) ∙ g.leads.same θ ((f.leads.shortened.iff θ).0 s));
     }
 
-pub terms_own : {n : ℕ} {ts : List ℕ} → Terms n ts → Terms (length ts) ts
-terms_own {n} {ts} t = subst (λ m. Terms m ts) (sym t.len) t
-
 -- ---- one turn
-module _ {n : ℕ} {ts stack : List ℕ} {h : ℕ} (o : Turnable n ts stack h) {ts' : List ℕ} {p q : ℕ}
-    (f : BothFound n ts (get_or stack h 0) ts' p q) where
+module _ {n : ℕ} {ts stack : List ℕ} {h e : ℕ} (o : Turnable n ts stack h e) {ts' : List ℕ} {p q : ℕ} (f : BothFound n ts e ts' p q) where
   -- The equation holds just where the classes are equal.
-  to_classes : (θ : ℕ → Ty) → Satisfies θ n ts → Sides (Same θ) (get_or stack h 0) → θ p ≡ θ q
+  to_classes : (θ : ℕ → Ty) → Satisfies θ n ts → SidesAgree θ e → θ p ≡ θ q
   to_classes θ s e = let x = f.same θ s in sym x.0 ∙ e ∙ x.1
 
-  from_classes : (θ : ℕ → Ty) → Satisfies θ n ts → θ p ≡ θ q → Sides (Same θ) (get_or stack h 0)
+  from_classes : (θ : ℕ → Ty) → Satisfies θ n ts → θ p ≡ θ q → SidesAgree θ e
   from_classes θ s e = let x = f.same θ s in x.0 ∙ e ∙ sym x.1
 
-  pub turn_same : p ≡ q → TurnedTo n ts stack h ts' stack 0
-  turn_same e =
+  pub turn_same : p ≡ q → TurnMerges n ts stack h e ts' stack h
+  turn_same pq =
       let a = shortened_says f.shortened in
       record {
-        clash = λ k. absurd (omega arith);
-        small = λ _. omega arith;
-        merging = λ _. record {
+        merging = record {
           terms = a.terms;
-          sides = λ i l. o.sides i (omega arith);
+          sides = o.sides;
           iff = λ θ. (
-            (λ x. ((f.shortened.iff θ).0 x.0, (λ i l. x.1 i (omega arith)))),
-            (λ x. let s = (f.shortened.iff θ).1 x.0 in
-                (s, one_more (Same θ) stack (λ i l. x.1 i (omega arith)) (from_classes θ s (ap θ e)))),
+            (λ x. ((f.shortened.iff θ).0 x.0, x.1.0)),
+            (λ x. let s = (f.shortened.iff θ).1 x.0 in (s, (x.1, from_classes θ s (ap θ pq)))),
           );
           old = a.old;
         };
-        falls = λ _. omega (arith, shortened_count f.shortened);
+        falls = omega (arith, shortened_count f.shortened);
+        small = omega arith;
+        long = refl;
       }
 
   abbrev s : ℕ
@@ -159,47 +137,43 @@ module _ {n : ℕ} {ts stack : List ℕ} {h : ℕ} (o : Turnable n ts stack h) {
   abbrev t : ℕ
   t = get_or ts' q 0
 
-  module _ {c : ℕ} (l : Leaves s t c) where
-    s_in : TermIn n p s
-    s_in = f.shortened.terms.each p f.p_below
+  s_in : TermIn n p s
+  s_in = f.shortened.terms.each p f.p_below
 
-    t_in : TermIn n q t
-    t_in = f.shortened.terms.each q f.q_below
+  t_in : TermIn n q t
+  t_in = f.shortened.terms.each q f.q_below
 
-    pub turn_clash : c ≡ 3 → TurnedTo n ts stack h ts' stack 3
-    turn_clash e = record {
-      clash = λ _. (
-        (λ θ x k. let y = (f.shortened.iff θ).0 x in
-            leaves_clash s_in t_in l e f.p_shape f.q_shape θ (θ p)
-            (y p f.p_below) (subst (MeetsWord θ t) (sym (to_classes θ x (k h (omega arith)))) (y q f.q_below))),
-        shortened_says f.shortened,
-      );
-      small = λ ne. absurd (ne refl);
-      merging = λ ne. absurd (ne refl);
-      falls = λ ne. absurd (ne refl);
-    }
+  pub turn_clash : Clashes s t → ((θ : ℕ → Ty) → Satisfies θ n ts → SidesAgree θ e → ⊥) × SaysAlso n ts (λ θ. Unit {0}) ts'
+  turn_clash l = (
+    (λ θ x k. let y = (f.shortened.iff θ).0 x in
+        leaves_clash s_in t_in l f.p_shape f.q_shape θ (θ p)
+        (y p f.p_below) (subst (MeetsWord θ t) (sym (to_classes θ x k)) (y q f.q_below))),
+    shortened_says f.shortened,
+  )
 
-    pub turn_joined : p ≢ q → c ≢ 3 → {ts'' : List ℕ} → Joined ts' p q (known_word s t) ts'' → TurnedTo n ts stack h ts'' (pushed stack h s t) c
-    turn_joined ne big {ts''} j =
-        let small = leaves_small l big in
-        let parts = leaves_parts s_in t_in l big in
-        let k : Joins n ts' p q (λ θ. PartsEqual θ s t c) ts'' =
-        join_says f.shortened.terms ts'' f.p_below f.q_below f.p_shape f.q_shape j l big ne in
-        record {
-          clash = λ e. absurd (big e);
-          small = λ _. small;
-          merging = λ _. record {
-            terms = k.terms;
-            sides = push_each stack h s t o.room (BothBelow n) c small (λ i l. o.sides i (omega arith)) parts;
-            iff = λ θ. (
-              (λ x. let y = (k.iff θ).0 ((f.shortened.iff θ).0 x.0, to_classes θ x.0 (x.1 h (omega arith))) in
-                  (y.0, push_each stack h s t o.room (Same θ) c small (λ i l. x.1 i (omega arith)) y.1)),
-              (λ x. let b = push_back stack h s t o.room (Same θ) c x.1 in
-                  let y = (k.iff θ).1 (x.0, b.1) in
-                  let z = (f.shortened.iff θ).1 y.0 in
-                  (z, one_more (Same θ) stack b.0 (from_classes θ z y.1))),
-            );
-            old = old_trans ts ts' ts'' (shortened_says f.shortened).old k.old;
-          };
-          falls = λ _. omega (arith, k.fewer, shortened_count f.shortened, small);
-        }
+module _ {n : ℕ} {ts : List ℕ} {before after : Stack} {e : ℕ} (o : Turnable n ts before.words.now before.height e)
+    {ts' : List ℕ} {p q : ℕ} (f : BothFound n ts e ts' p q) where
+  pub turn_joined : {c : ℕ} → Leaves (s o f) (t o f) c → p ≢ q → {ts'' : List ℕ} → Joined ts' p q (known_word (s o f) (t o f)) ts''
+      → Pushed before (s o f) (t o f) c after → TurnMerges n ts before.words.now before.height e ts'' after.words.now after.height
+  turn_joined {c} l ne {ts''} j u =
+      let small = leaves_small l in
+      let parts = leaves_parts (s_in o f) (t_in o f) l in
+      let k : Joins n ts' p q (λ θ. PartsEqual θ (s o f) (t o f) c) ts'' =
+      join_says f.shortened.terms ts'' f.p_below f.q_below f.p_shape f.q_shape j l ne in
+      rw u.height (record {
+        merging = record {
+          terms = k.terms;
+          sides = push_each small u (BothBelow n) o.sides parts;
+          iff = λ θ. (
+            (λ x. let y = (k.iff θ).0 ((f.shortened.iff θ).0 x.0, to_classes o f θ x.0 x.1.1) in (y.0, push_each small u (Same θ) x.1.0 y.1)),
+            (λ x. let b = push_back small u (Same θ) x.1 in
+                let y = (k.iff θ).1 (x.0, b.1) in
+                let z = (f.shortened.iff θ).1 y.0 in
+                (z, (b.0, from_classes o f θ z y.1))),
+          );
+          old = old_trans ts ts' ts'' (shortened_says f.shortened).old k.old;
+        };
+        falls = omega (arith, k.fewer, shortened_count f.shortened, small);
+        small = omega arith;
+        long = u.long;
+      })

@@ -1,8 +1,9 @@
 -- Equations taken off the stack, one in each turn.
-use Rattle.std.specs.Prelude.{ℕ, suc, ◌+◌, ◌*◌, ◌/◌, ◌%◌, ◌<◌, ◌≤◌, Bool, true, false, List, ◌↔◌, ◌≢◌, ◌≡◌, get_or, length}
+use Rattle.std.specs.Prelude.{ℕ, ◌+◌, ◌*◌, ◌/◌, ◌%◌, ◌<◌, ◌≤◌, List, Option, Some, None, ◌↔◌, ◌≡◌, get_or, length}
 use Rattle.rules.specs.Types.{Ty}
-use Rattle.terms.specs.Words.{term_of}
+use Rattle.terms.specs.Words.{word_left, word_right, term_of}
 use Rattle.terms.specs.Terms.{Terms, Satisfies, HoldsTo, TermFrom, SaysAlso}
+use Rattle.terms.specs.declared.Stack.{Stack}
 use Rattle.classes.specs.Merging.{NoneTo}
 use Rattle.classes.specs.Finding.{class_count}
 
@@ -17,18 +18,36 @@ pub record SaysStacked (n : ℕ) (ts₀ : List ℕ) (P : (ℕ → Ty) → Type 0
   pub iff : (θ : ℕ → Ty) → (Satisfies θ n ts₀ × P θ) ↔ (Satisfies θ n ts × HoldsTo θ stack h)
   pub old : (v : ℕ) → v < n → TermFrom n ts₀ (term_of (get_or ts v 0))
 
--- The equation at h is the last on the stack.
-pub record Turnable (n : ℕ) (ts stack : List ℕ) (h : ℕ) : Type 0 where
-  pub terms : Terms n ts
-  pub sides : SidesTo n stack (suc h)
-  pub room : h + 1 < length stack
+-- Equation e holds.
+abbrev pub SidesAgree : (ℕ → Ty) → ℕ → Type 0
+SidesAgree θ e = θ (e / 4096) ≡ θ (e % 4096)
 
--- After a turn c equations are on the stack for the one at h; or c is 3, it clashes, and nothing was joined.
-pub record TurnedTo (n : ℕ) (ts stack : List ℕ) (h : ℕ) (ts' stack' : List ℕ) (c : ℕ) : Type 0 where
-  pub clash : c ≡ 3 → NoneTo n ts stack (suc h) × SaysAlso n ts (λ θ. Unit {0}) ts'
-  pub small : c ≢ 3 → c ≤ 2
-  pub merging : c ≢ 3 → SaysStacked n ts (λ θ. HoldsTo θ stack (suc h)) ts' stack' (h + c)
-  pub falls : c ≢ 3 → 2 * class_count n ts' + c ≤ 2 * class_count n ts
+-- There are c equations more on the stack: that of the first parts of s and t, and that of the second parts.
+pub record Pushed (before : Stack) (s t c : ℕ) (after : Stack) : Type 0 where
+  pub height : after.height ≡ before.height + c
+  pub long : length after.words.now ≡ length before.words.now
+  pub below : (i : ℕ) → i < before.height → get_or after.words.now i 0 ≡ get_or before.words.now i 0
+  pub first : 0 < c → get_or after.words.now before.height 0 ≡ word_left s * 4096 + word_left t
+  pub second : 1 < c → get_or after.words.now (before.height + 1) 0 ≡ word_right s * 4096 + word_right t
+
+-- Equation e was taken off the stack.
+pub record Turnable (n : ℕ) (ts stack : List ℕ) (h e : ℕ) : Type 0 where
+  pub terms : Terms n ts
+  pub sides : SidesTo n stack h
+  pub side : (e / 4096 < n) × (e % 4096 < n)
+  pub room : h + 2 ≤ length stack
+
+-- At most two equations are on the stack for e.
+pub record TurnMerges (n : ℕ) (ts stack : List ℕ) (h e : ℕ) (ts' stack' : List ℕ) (h' : ℕ) : Type 0 where
+  pub merging : SaysStacked n ts (λ θ. HoldsTo θ stack h × SidesAgree θ e) ts' stack' h'
+  pub falls : 2 * class_count n ts' + h' ≤ 2 * class_count n ts + h
+  pub small : h' ≤ h + 2
+  pub long : length stack' ≡ length stack
+
+-- So it is; or e clashes, and nothing was joined.
+abbrev pub TurnedTo : (n : ℕ) (ts : List ℕ) (before : Stack) (e : ℕ) (ts' : List ℕ) (after : Stack) → Option (Unit {0}) → Type 0
+TurnedTo n ts before e ts' after (Some u) = TurnMerges n ts before.words.now before.height e ts' after.words.now after.height
+TurnedTo n ts before e ts' after None = ((θ : ℕ → Ty) → Satisfies θ n ts → SidesAgree θ e → ⊥) × SaysAlso n ts (λ θ. Unit {0}) ts'
 
 -- A class fewer for each equation more is room enough.
 pub record StackMergeable (n : ℕ) (ts stack : List ℕ) (h : ℕ) : Type 0 where
@@ -37,6 +56,8 @@ pub record StackMergeable (n : ℕ) (ts stack : List ℕ) (h : ℕ) : Type 0 whe
   pub room : n + 2 ≤ length stack
   pub few : h + class_count n ts ≤ n + 1
 
-abbrev pub StackMerged : (n : ℕ) (ts stack : List ℕ) (h : ℕ) → List ℕ → Bool → Type 0
-StackMerged n ts stack h ts' true = SaysAlso n ts (λ θ. HoldsTo θ stack h) ts'
-StackMerged n ts stack h ts' false = NoneTo n ts stack h
+-- The stack is empty, and as long as before.
+abbrev pub StackMerged : (n : ℕ) (ts : List ℕ) (before : Stack) (ts' : List ℕ) (after : Stack) → Option (Unit {0}) → Type 0
+StackMerged n ts before ts' after (Some u) =
+    SaysAlso n ts (λ θ. HoldsTo θ before.words.now before.height) ts' × (after.height ≡ 0) × (length after.words.now ≡ length before.words.now)
+StackMerged n ts before ts' after None = NoneTo n ts before.words.now before.height

@@ -1,32 +1,24 @@
 // Classes of variables: links to smaller variables lead to a class's least variable, which has the class's shape. Equations merge classes.
 #![tactic(auto)]
 
-ghost use Rattle.std.specs.Prelude.{◌≡◌, ◌+◌, ◌<◌, ◌≤◌, min, max, length};
+ghost use Rattle.std.specs.Prelude.{◌≡◌, ◌+◌, ◌<◌, ◌≤◌, length};
 ghost use Rattle.terms.specs.Words.{word_form};
 ghost use Rattle.terms.specs.Terms.{Terms};
 ghost use Rattle.classes.specs.Merging.{Mergeable, MergedAll};
 ghost use Rattle.classes.specs.Finding.{ClassFound};
-ghost use Rattle.classes.specs.Joining.{Leaves, known_word, Joined, pushed};
-ghost use Rattle.classes.specs.Turning.{Turnable, TurnedTo, StackMergeable, StackMerged};
+ghost use Rattle.classes.specs.Joining.{LeavesIf, known_word, Joined};
+ghost use Rattle.classes.specs.Turning.{Pushed, Turnable, TurnedTo, StackMergeable, StackMerged};
 
-use terms::{ATOM, LINK, OPEN, POWER};
+use terms::{Stack, Term};
 
-// What merging all equations came to. `Clash` and `ClashInside` have the first equation that clashes.
+// The first equation that clashes with those before it.
 #[derive(Clone, Copy)]
-pub enum Merged {
-    All,
-    Clash(usize),
-    ClashInside(usize),
+pub enum Clash {
+    // Its two classes differ in form or in atom.
+    Here(usize),
+    // Parts of its two classes do.
+    Inside(usize),
 }
-
-// What two shapes of one class leave: so many equations between parts, or a clash.
-const NOTHING: usize = 0;
-
-const ONE: usize = 1;
-
-const TWO: usize = 2;
-
-const CLASH: usize = 3;
 
 // The class of v. Links on the way are shortened.
 fn find(terms: &mut [u32], v: usize) -> usize
@@ -34,66 +26,40 @@ fn find(terms: &mut [u32], v: usize) -> usize
     ensures { ClassFound (length terms.old) terms.old v terms.new result }
 {
     let mut x = v;
-    loop {
-        let w = terms[x];
-        if terms::form(w) != LINK {
-            return x;
-        }
-        let y = terms::right(w);
-        let u = terms[y];
-        if terms::form(u) != LINK {
+    while let Term::Link(y) = Term::from(terms[x]) {
+        let further = terms[y];
+        let Term::Link(z) = Term::from(further) else {
             return y;
-        }
-        terms[x] = u;
-        x = terms::right(u);
+        };
+        terms[x] = further;
+        x = z;
     }
+    x
 }
 
-// What the shapes s and t leave, where they are of one class.
-fn leaves(s: u32, t: u32) -> usize
+// How many equations between parts the shapes s and t leave, where they are of one class; none where they clash. A match on the pair of
+// both terms reads better, but merges in 1.7 times the time of this one.
+fn leaves(s: u32, t: u32) -> Option<usize>
     requires { word_form s ≤ 3 }
-    ensures { Leaves s t result }
+    ensures { LeavesIf s t result }
 {
-    let f = terms::form(s);
-    let g = terms::form(t);
-    if f == OPEN {
-        return NOTHING;
+    if let Term::Open = Term::from(s) {
+        return Some(0);
     }
-    if g == OPEN {
-        return NOTHING;
+    match Term::from(t) {
+        Term::Open => Some(0),
+        Term::Atom(b) if matches!(Term::from(s), Term::Atom(a) if a == b) => Some(0),
+        Term::Power(_) if matches!(Term::from(s), Term::Power(_)) => Some(1),
+        Term::Product(..) if matches!(Term::from(s), Term::Product(..)) => Some(2),
+        _ => None,
     }
-    if f != g {
-        return CLASH;
-    }
-    if f == ATOM {
-        if terms::left(s) == terms::left(t) {
-            return NOTHING;
-        }
-        return CLASH;
-    }
-    if f == POWER {
-        return ONE;
-    }
-    TWO
 }
 
 // The shape of the merged class: the one that is known.
 fn known(s: u32, t: u32) -> u32
     ensures { result ≡ known_word s t }
 {
-    if terms::form(s) == OPEN { t } else { s }
-}
-
-fn least(p: usize, q: usize) -> usize
-    ensures { result ≡ min p q }
-{
-    if p < q { p } else { q }
-}
-
-fn most(p: usize, q: usize) -> usize
-    ensures { result ≡ max p q }
-{
-    if p < q { q } else { p }
+    if let Term::Open = Term::from(s) { t } else { s }
 }
 
 // Makes one class of p and q, which have the shapes s and t.
@@ -101,76 +67,66 @@ fn join(terms: &mut [u32], p: usize, q: usize, s: u32, t: u32)
     requires { (p < length terms.old) × (q < length terms.old) × (length terms.old ≤ 4096) }
     ensures { Joined terms.old p q (known_word s t) terms.new }
 {
-    let low = least(p, q);
-    let high = most(p, q);
-    terms[high] = terms::link(low);
+    let low = p.min(q);
+    terms[p.max(q)] = terms::link(low);
     terms[low] = known(s, t);
 }
 
-// The equations between the parts of s and t, also where they have fewer: the stack's height says how many count.
-fn push(stack: &mut [u32], h: usize, s: u32, t: u32)
-    requires { h + 1 < length stack.old }
-    ensures { stack.new ≡ pushed stack.old h s t }
+// Puts as many equations between the parts of s and t on the stack: none, that of the first parts, or both.
+fn push(stack: &mut Stack, s: u32, t: u32, count: usize)
+    requires { (count ≤ 2) × (stack.old.height + 2 ≤ length stack.old.words.now) }
+    ensures { Pushed stack.old s t count stack.new }
 {
-    stack[h] = terms::equation(terms::left(s), terms::left(t));
-    stack[h + 1] = terms::equation(terms::right(s), terms::right(t));
+    if count == 0 {
+        return;
+    }
+    stack.push(terms::equation(terms::left(s), terms::left(t)));
+    if count == 1 {
+        return;
+    }
+    stack.push(terms::equation(terms::right(s), terms::right(t)));
 }
 
-// Takes the equation at h off the stack, and puts what it leaves on it.
-fn turn(terms: &mut [u32], stack: &mut [u32], h: usize) -> usize
-    requires { Turnable (length terms.old) terms.old stack.old h }
-    ensures { TurnedTo (length terms.old) terms.old stack.old h terms.new stack.new result }
+// Makes one class of the two of equation e, and puts on the stack what that leaves; none where they clash.
+fn turn(terms: &mut [u32], stack: &mut Stack, e: u32) -> Option<()>
+    requires { Turnable (length terms.old) terms.old stack.old.words.now stack.old.height e }
+    ensures { TurnedTo (length terms.old) terms.old stack.old e terms.new stack.new result }
 {
-    let e = stack[h];
     let p = find(terms, terms::left_side(e));
     let q = find(terms, terms::right_side(e));
-    if p == q {
-        return NOTHING;
+    if p != q {
+        let s = terms[p];
+        let t = terms[q];
+        let count = leaves(s, t)?;
+        join(terms, p, q, s, t);
+        push(stack, s, t, count);
     }
-    let s = terms[p];
-    let t = terms[q];
-    let c = leaves(s, t);
-    if c == CLASH {
-        return CLASH;
-    }
-    join(terms, p, q, s, t);
-    push(stack, h, s, t);
-    c
+    Some(())
 }
 
-// Merges what is on the stack; false where that clashes.
-fn merge_stack(terms: &mut [u32], stack: &mut [u32], height: usize) -> bool
-    requires { StackMergeable (length terms.old) terms.old stack.old height }
-    ensures { StackMerged (length terms.old) terms.old stack.old height terms.new result }
+// Merges what is on the stack; none where that clashes.
+fn merge_stack(terms: &mut [u32], stack: &mut Stack) -> Option<()>
+    requires { StackMergeable (length terms.old) terms.old stack.old.words.now stack.old.height }
+    ensures { StackMerged (length terms.old) terms.old stack.old terms.new stack.new result }
 {
-    let mut h = height;
-    while h > 0 {
-        h -= 1;
-        let c = turn(terms, stack, h);
-        if c == CLASH {
-            return false;
-        }
-        h += c;
+    while let Some(e) = stack.pop() {
+        turn(terms, stack, e)?;
     }
-    true
+    Some(())
 }
 
 // Merges the equations in turn.
-pub fn merge_all(terms: &mut [u32], stack: &mut [u32], equations: &[u32]) -> Merged
+pub fn merge_all(terms: &mut [u32], stack: &mut [u32], equations: &[u32]) -> Result<(), Clash>
     requires { Mergeable (length terms.old) terms.old stack.old equations.now }
     ensures { MergedAll (length terms.old) terms.old equations.now result terms.new }
 {
-    let mut i: usize = 0;
-    while i < equations.len() {
-        stack[0] = equations[i];
-        let c = turn(terms, stack, 0);
-        if c == CLASH {
-            return Merged::Clash(i);
-        }
-        if !merge_stack(terms, stack, c) {
-            return Merged::ClashInside(i);
-        }
-        i += 1;
+    let mut left = Stack {
+        words: stack,
+        height: 0,
+    };
+    for (i, &e) in equations.iter().enumerate() {
+        turn(terms, &mut left, e).ok_or(Clash::Here(i))?;
+        merge_stack(terms, &mut left).ok_or(Clash::Inside(i))?;
     }
-    Merged::All
+    Ok(())
 }

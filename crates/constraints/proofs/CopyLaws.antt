@@ -1,34 +1,34 @@
--- Words copied one after the other: the words that stand are those copied so far, and those below the first are kept.
-use Prim.Native.Nat.{ℕ, suc, ◌+◌, ◌<◌}
-use mathlib.Core.List.{List}
-use mathlib.Core.Path.{◌≡◌, refl, ◌∙◌}
-use native.Mathlib.Decide.{ℕ_discrete}
+-- Words put into an array from a place on: those that stand below the place are kept.
+use Prim.Native.Nat.{ℕ, ◌+◌, ◌-◌, ◌≤◌, ◌<◌}
+use mathlib.Core.List.{List, ◌++◌}
+use mathlib.Core.Path.{◌≡◌, ap, subst, ◌∙◌}
 use native.Mathlib.Omega.{arith}
-use lib.ListN.{get_or, length, set, length-set}
-use lib.Seq.{get_or-set_same, get_or-set_other}
+use borrow.Rule.Slice.PartMut.{put_mid, post_of}
+use lib.ListN.{get_or, length, take, drop, length-append, replicate, length-drop, get_or-append, length-replicate, get_or-replicate}
+use lib.Seq.{get_or-take, get_or-append-add, length-take-le}
 use Rattle.constraints.specs.Rules.{WordsCopied}
 
-pub copy_none : (k : ℕ) (ws out : List ℕ) (v : ℕ) → WordsCopied k 0 ws out out v
-copy_none k ws out v = record { out_length = refl; kept_below = λ u h. refl; copied = λ i h. absurd (omega arith) }
+module _ (m : ℕ) (ws out part : List ℕ) (v k : ℕ) (e : k ≡ m) (same : part ≡ ws) (long : length ws ≡ m) (h : v + m ≤ length out) where
+  before : length (take v out) ≡ v
+  before = length-take-le v out (omega arith)
 
--- The next word goes to the place after.
-pub copy_next : {k m : ℕ} {ws out out' : List ℕ} {v : ℕ} (u x : ℕ) → u ≡ v + m → x ≡ get_or ws (k + m) 0 → u < length out →
-    WordsCopied k m ws out out' v → WordsCopied k (suc m) ws out (set out' u x) v
-copy_next {k} {m} {ws} {out} {out'} {v} u x eu ex h c = record {
-  out_length = length-set out' u x ∙ c.out_length;
-  kept_below = λ w l. get_or-set_other out' u w x 0 (λ e. omega arith) ∙ c.kept_below w l;
-  copied = λ i l. go i l (ℕ_discrete i m);
-}
-  where
-    go : (i : ℕ) → i < suc m → Dec (i ≡ m) → get_or (set out' u x) (v + i) 0 ≡ get_or ws (k + i) 0
-    go i l (yes e) = rw (e, ← eu) (get_or-set_same out' u x 0 (omega (arith, c.out_length)) ∙ ex)
-    go i l (no g) = get_or-set_other out' u (v + i) x 0 (λ e. g (omega arith)) ∙ c.copied i (omega arith)
+  part_long : length part ≡ m
+  part_long = ap length same ∙ long
 
--- One more variable of which nothing is known.
-pub open_next : (shapes : List ℕ) (v : ℕ) → v < length shapes → ((u : ℕ) → u < v → get_or shapes u 0 ≡ 0) →
-    (u : ℕ) → u < v + 1 → get_or (set shapes v 0) u 0 ≡ 0
-open_next shapes v h q u l = go (ℕ_discrete u v)
-  where
-    go : Dec (u ≡ v) → get_or (set shapes v 0) u 0 ≡ 0
-    go (yes e) = rw e (get_or-set_same shapes v 0 0 h)
-    go (no g) = get_or-set_other shapes v u 0 0 g ∙ q u (omega arith)
+  after : length (post_of v k out) ≡ length out - v - k
+  after = length-drop k (drop v out) ∙ ap (λ i. i - k) (length-drop v out)
+
+  pub words_copied : WordsCopied m ws out (put_mid v k out part) v
+  words_copied = record {
+    out_length = omega (arith, part_long, before, after, length-append (take v out) (part ++ post_of v k out), length-append part (post_of v k out));
+    kept_below = λ u l. get_or-append (take v out) (part ++ post_of v k out) 0 u (omega (arith, before)) ∙ get_or-take v out u 0 l;
+    copied = λ i l. subst (λ j. get_or (put_mid v k out part) (j + i) 0 ≡ get_or ws i 0) before
+        (get_or-append-add (take v out) (part ++ post_of v k out) i 0 ∙ get_or-append part (post_of v k out) 0 i (omega (arith, part_long))
+        ∙ ap (λ x. get_or x i 0) same);
+  }
+
+-- Zeros put at the front.
+pub opened : {zeros : List ℕ} {n : ℕ} (rest : List ℕ) → zeros ≡ replicate n 0 → {m : ℕ} → n ≡ m → (i : ℕ) → i < m → get_or (zeros ++ rest) i 0 ≡ 0
+opened {zeros} {n} rest e q i l =
+    let z : length zeros ≡ n = ap length e ∙ length-replicate n 0 in
+    get_or-append zeros rest 0 i (omega arith) ∙ ap (λ x. get_or x i 0) e ∙ get_or-replicate n i 0 0 (omega arith)

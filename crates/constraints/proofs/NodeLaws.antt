@@ -5,7 +5,7 @@ use mathlib.Core.List.{List, [], ◌∷◌, ◌++◌, map}
 use mathlib.Core.Option.{Option, none as nothing, some}
 use mathlib.Core.Path.{◌≡◌, refl, sym, ap, ap₂, subst, ◌∙◌}
 use native.Mathlib.Decide.{ℕ_discrete, dec_lt}
-use native.Mathlib.Nat.{add-zero}
+use native.Mathlib.Nat.{add-zero, zero-add}
 use native.Mathlib.Numerals.{add-one}
 use native.Mathlib.Omega.{arith}
 use lib.ListN.{length, get_or, set, length-append, length-map, get_or-append, get_or-map}
@@ -21,9 +21,10 @@ use Rattle.typing.proofs.RefLaws.{few_slots, few_equations, RefRight, FormRight,
 use Rattle.typing.proofs.VariableLaws.{shape_name, shape_node, ref_below}
 use Rattle.terms.specs.Words.{ShapeWord, word_eqn}
 use Rattle.terms.proofs.WordLaws.{open_word}
+use Rattle.constraints.specs.declared.NodeWords.{NodeWords}
 use Rattle.constraints.specs.Constrained.{Constrained}
 use Rattle.constraints.specs.Rules.{slot_var, ref_var, ShapesFrom, PairsFrom, RuleOf, RuleHeld, NodeRule, WordsCopied, StartsTo}
-use Rattle.constraints.proofs.PartLaws.{length_equations}
+use Rattle.typing.proofs.EquationCounts.{length_equations}
 
 -- Variables that are the same at right references make the same words.
 module _ (tb : Table) (n : ℕ) (d : Node) (m : ℕ) {ρ ρ' : Ref → ℕ} (same : (r : Ref) → RefRight tb n d m r → ρ r ≡ ρ' r) where
@@ -42,11 +43,11 @@ module _ (tb : Table) (n : ℕ) (d : Node) (m : ℕ) {ρ ρ' : Ref → ℕ} (sam
   pairs_same (e ∷ es) i r h q =
       (q.0 ∙ ap₂ (λ v u. v * 4096 + u) (same e.0 h.0) (same e.1 h.1), pairs_same es (suc i) r h.2 q.1)
 
-rule_same : {tb : Table} {n : ℕ} {d : Node} {p : Plan} {ρ ρ' : Ref → ℕ} {r : List ℕ} → PlanRight tb n d p →
+rule_same : {tb : Table} {n : ℕ} {d : Node} {p : Plan} {ρ ρ' : Ref → ℕ} {r : NodeWords} → PlanRight tb n d p →
     ((r : Ref) → RefRight tb n d (length p.slots) r → ρ r ≡ ρ' r) → RuleOf p ρ r → RuleOf p ρ' r
 rule_same {tb} {n} {d} {p} {r = r} w same q = record {
-  shapes_held = shapes_same tb n d (length p.slots) same (p.self_form ∷ p.slots) 0 r (w.self_right, w.slots_right) q.shapes_held;
-  pairs_held = pairs_same tb n d (length p.slots) same p.equations 6 r w.equations_right q.pairs_held;
+  shapes_held = shapes_same tb n d (length p.slots) same (p.self_form ∷ p.slots) 0 r.shapes (w.self_right, w.slots_right) q.shapes_held;
+  pairs_held = pairs_same tb n d (length p.slots) same p.equations 0 r.equations w.equations_right q.pairs_held;
   sizes_held = q.sizes_held;
 }
 
@@ -91,7 +92,7 @@ module _ {tb : Table} {n kind own a b x : ℕ} (q : NodeRead tb n kind own a b x
   var_right m name w = q.name_is (omega arith)
   var_right m (slot i) w = slot_var_law (own + 1) i ∙ ap (λ v. v + 1 + i) q.own_is
 
-  pub node_words_law : length tb.sizes ≤ 16 → NodeRight tb n → {r : List ℕ} → RuleHeld kind own a b x r → NodeRule tb n r
+  pub node_words_law : length tb.sizes ≤ 16 → NodeRight tb n → {r : NodeWords} → RuleHeld kind own a b x r → NodeRule tb n r
   node_words_law sets right {r} h =
       let d = node_at tb.nodes n in
       let same : plan_of (kind_of kind) x ≡ plan_at tb n =
@@ -119,8 +120,8 @@ module _ (tb : Table) (n : ℕ) (d : Node) (m : ℕ) {ρ : Ref → ℕ} (small :
       let q : i + suc j ≡ suc i + j = omega arith in rw q (eqn_at es (suc i) r w.2 h.1 j (omega arith))
 
 -- The arrays with the words of node n.
-module _ (tb : Table) (n : ℕ) {r : List ℕ} (h : NodeRule tb n r) where
-  shapes_next : n < length tb.nodes → (shapes shapes' : List ℕ) → WordsCopied 0 6 r shapes shapes' (base tb n) →
+module _ (tb : Table) (n : ℕ) {r : NodeWords} (h : NodeRule tb n r) where
+  shapes_next : n < length tb.nodes → (shapes shapes' : List ℕ) → WordsCopied 6 r.shapes shapes shapes' (base tb n) →
       ((v : ℕ) → v < base tb n → ShapeWord (get_or shapes v 0) (shape_at tb v)) →
       (v : ℕ) → v < base tb (suc n) → ShapeWord (get_or shapes' v 0) (shape_at tb v)
   unfolding base
@@ -131,13 +132,13 @@ module _ (tb : Table) (n : ℕ) {r : List ℕ} (h : NodeRule tb n r) where
           let few = few_slots (node_at tb.nodes n).kind (node_at tb.nodes n).a in
           let fs = (plan_at tb n).self_form ∷ (plan_at tb n).slots in
           rw (c.copied i (omega arith), shape_node tb l i k ∙ get_or-map (shape_from (var_of tb n)) fs i openᶠ)
-          (shape_at_law (var_of tb n) fs 0 r h.shapes_held i k)
+          (rw zero-add at (shape_at_law (var_of tb n) fs 0 r.shapes h.shapes_held i k))
 
       go : Dec (v < base tb n) → ShapeWord (get_or shapes' v 0) (shape_at tb v)
       go (yes k) = rw (c.kept_below v k) (old v k)
       go (no k) = let e : base tb n + (v - base tb n) ≡ v = omega arith in rw e at (new (v - base tb n) (omega arith))
 
-  equations_next : NodeRight tb n → base tb (suc n) ≤ 4096 → (eqns eqns' : List ℕ) → WordsCopied 6 2 r eqns eqns' (length (equations tb n)) →
+  equations_next : NodeRight tb n → base tb (suc n) ≤ 4096 → (eqns eqns' : List ℕ) → WordsCopied 2 r.equations eqns eqns' (length (equations tb n)) →
       ((i : ℕ) → i < length (equations tb n) → word_eqn (get_or eqns i 0) ≡ get_or (equations tb n) i (eqn 0 0)) →
       (i : ℕ) → i < length (equations tb n ++ node_equations tb n) →
       word_eqn (get_or eqns' i 0) ≡ get_or (equations tb n ++ node_equations tb n) i (eqn 0 0)
@@ -153,8 +154,9 @@ module _ (tb : Table) (n : ℕ) {r : List ℕ} (h : NodeRule tb n r) where
           word_eqn (get_or eqns' (length (equations tb n) + j) 0) ≡ get_or (node_equations tb n) j (eqn 0 0)
       new j k =
           rw (c.copied j (omega (arith, few_equations d.kind d.a)))
-          (eqn_at tb n d (slot_count tb n) (λ s w. omega (arith, ref_below tb {n = n} {k = suc n} (omega arith) s w)) (plan_at tb n).equations 6 r
-          (plan_refs tb n d (kind_at tb.nodes n) right).equations_right h.pairs_held j k)
+          (rw zero-add at
+          (eqn_at tb n d (slot_count tb n) (λ s w. omega (arith, ref_below tb {n = n} {k = suc n} (omega arith) s w)) (plan_at tb n).equations 0
+          r.equations (plan_refs tb n d (kind_at tb.nodes n) right).equations_right h.pairs_held j k))
 
       go : Dec (i < length (equations tb n)) → word_eqn (get_or eqns' i 0) ≡ get_or (equations tb n ++ node_equations tb n) i (eqn 0 0)
       go (yes k) = ap word_eqn (c.kept_below i k) ∙ old i k ∙ sym (get_or-append (equations tb n) (node_equations tb n) (eqn 0 0) i k)
@@ -165,16 +167,16 @@ module _ (tb : Table) (n : ℕ) {r : List ℕ} (h : NodeRule tb n r) where
           rw e at (t ∙ sym (get_or-append-add (equations tb n) (node_equations tb n) j (eqn 0 0)))
 
   pub start_next : {s : ℕ} → s ≡ base tb n + 4096 * length (equations tb n) →
-      s + get_or r 8 0 ≡ base tb (suc n) + 4096 * length (equations tb (suc n))
+      s + r.count ≡ base tb (suc n) + 4096 * length (equations tb (suc n))
   unfolding base
   start_next e = omega (arith, h.sizes_held, length_equations tb n)
 
   starts_next : (starts : List ℕ) → n + 1 < length starts → StartsTo tb n starts →
-      (m : ℕ) → m ≤ suc n → get_or (set starts (n + 1) (get_or starts n 0 + get_or r 8 0)) m 0 ≡ base tb m + 4096 * length (equations tb m)
+      (m : ℕ) → m ≤ suc n → get_or (set starts (n + 1) (get_or starts n 0 + r.count)) m 0 ≡ base tb m + 4096 * length (equations tb m)
   starts_next starts long old m k = go (ℕ_discrete m (n + 1))
     where
       x : ℕ
-      x = get_or starts n 0 + get_or r 8 0
+      x = get_or starts n 0 + r.count
 
       go : Dec (m ≡ n + 1) → get_or (set starts (n + 1) x) m 0 ≡ base tb m + 4096 * length (equations tb m)
       go (yes e) = rw e (get_or-set_same starts (n + 1) x 0 long ∙ rw (add-one n) (start_next (old n (omega arith))))
@@ -182,11 +184,11 @@ module _ (tb : Table) (n : ℕ) {r : List ℕ} (h : NodeRule tb n r) where
 
   pub constrained_next : n < length tb.nodes → NodeRight tb n → base tb (suc n) ≤ 4096 →
       (shapes shapes' eqns eqns' starts : List ℕ) → Constrained tb n shapes eqns starts →
-      WordsCopied 0 6 r shapes shapes' (base tb n) → WordsCopied 6 2 r eqns eqns' (length (equations tb n)) → n + 1 < length starts →
-      Constrained tb (n + 1) shapes' eqns' (set starts (n + 1) (get_or starts n 0 + get_or r 8 0))
+      WordsCopied 6 r.shapes shapes shapes' (base tb n) → WordsCopied 2 r.equations eqns eqns' (length (equations tb n)) → n + 1 < length starts →
+      Constrained tb (n + 1) shapes' eqns' (set starts (n + 1) (get_or starts n 0 + r.count))
   unfolding equations
   constrained_next l right small shapes shapes' eqns eqns' starts q cs ce long =
-      subst (λ k. Constrained tb k shapes' eqns' (set starts (n + 1) (get_or starts n 0 + get_or r 8 0))) (sym (add-one n))
+      subst (λ k. Constrained tb k shapes' eqns' (set starts (n + 1) (get_or starts n 0 + r.count))) (sym (add-one n))
       (record {
         starts_are = starts_next starts long q.starts_are;
         shapes_are = shapes_next l shapes shapes' cs q.shapes_are;

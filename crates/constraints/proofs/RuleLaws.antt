@@ -1,12 +1,12 @@
 -- The rules by the kinds' codes: an arm's words are taken to its code, and a code that has no arm has no rule.
 use Prim.Native.Nat.{ℕ, suc, ◌+◌, ◌*◌, ◌-◌, ◌<◌, ◌≤◌}
-use mathlib.Core.List.{List, [], ◌∷◌, map}
+use mathlib.Core.List.{List, [], ◌∷◌, ◌++◌, map}
 use mathlib.Core.Logic.{inl, inr}
 use mathlib.Core.Option.{Option, none as nothing}
 use mathlib.Core.Path.{◌≡◌, refl, sym, ap, subst, ◌∙◌}
 use native.Mathlib.Decide.{ℕ_discrete}
 use native.Mathlib.Omega.{arith}
-use lib.ListN.{get_or, length, drop, get_or-replicate, get_or-eq_default, get_or-map}
+use lib.ListN.{length, drop, replicate, get_or-replicate, get_or-eq_default, get_or-map}
 use lib.Seq.{get_or-take, get_or-drop}
 use Rattle.rules.specs.Types.{given}
 use Rattle.rules.specs.Kinds.{Kind, kinds, kind_of}
@@ -16,43 +16,49 @@ use Rattle.typing.specs.Plan.{Plan, only, openᶠ}
 use Rattle.typing.specs.Equations.{plan_of}
 use Rattle.terms.specs.Words.{ShapeWord}
 use Rattle.terms.proofs.WordLaws.{open_word}
-use Rattle.constraints.specs.Rules.{ref_var, ShapesFrom, PairsFrom, RuleOf, RuleHeld}
+use Rattle.constraints.specs.declared.NodeWords.{NodeWords}
+use Rattle.constraints.specs.Rules.{ref_var, ShapesFrom, PairsFrom, RuleOf, WordsOf, RuleHeld}
 
 abbrev PlanShapes : (n own a b x : ℕ) → List ℕ → Type 0
-PlanShapes n own a b x r = ShapesFrom (ref_var own a b x) ((plan_of (kind_of n) x).self_form ∷ (plan_of (kind_of n) x).slots) 0 r
+PlanShapes n own a b x shapes =
+    ShapesFrom (ref_var own a b x) ((plan_of (kind_of n) x).self_form ∷ (plan_of (kind_of n) x).slots) 0
+    (shapes ++ drop (length shapes) (replicate 6 0))
 
 abbrev PlanPairs : (n own a b x : ℕ) → List ℕ → Type 0
-PlanPairs n own a b x r = PairsFrom (ref_var own a b x) (plan_of (kind_of n) x).equations 6 r
+PlanPairs n own a b x eqns =
+    PairsFrom (ref_var own a b x) (plan_of (kind_of n) x).equations 0 (eqns ++ drop (length eqns) (replicate 2 0))
 
-abbrev PlanSizes : ℕ → ℕ → List ℕ → Type 0
-PlanSizes n x r = get_or r 8 0 ≡ 1 + length (plan_of (kind_of n) x).slots + 4096 * length (plan_of (kind_of n) x).equations
+abbrev PlanSizes : (n x : ℕ) (shapes eqns : List ℕ) → Type 0
+PlanSizes n x shapes eqns =
+    length shapes + 4096 * length eqns ≡ 1 + length (plan_of (kind_of n) x).slots + 4096 * length (plan_of (kind_of n) x).equations
 
--- The rule of a kind k with code n, or with the plan of the one with code n.
-module _ {k own a b x : ℕ} {r : List ℕ} where
-  rule_like : (n : ℕ) → plan_of (kind_of n) x ≡ plan_of (kind_of k) x → PlanShapes n own a b x r → PlanPairs n own a b x r → PlanSizes n x r →
-      RuleHeld k own a b x r
+-- Words that are made of shapes and equations are the rule of a kind k with code n, or with the plan of the one with code n.
+module _ {k own a b x : ℕ} {shapes eqns : List ℕ} {r : NodeWords} (w : WordsOf shapes eqns r) where
+  rule_like : (n : ℕ) → plan_of (kind_of n) x ≡ plan_of (kind_of k) x → PlanShapes n own a b x shapes → PlanPairs n own a b x eqns →
+      PlanSizes n x shapes eqns → RuleHeld k own a b x r
   rule_like n e s q z =
-      let h : RuleOf (plan_of (kind_of n) x) (ref_var own a b x) r = record { shapes_held = s; pairs_held = q; sizes_held = z } in
+      let h : RuleOf (plan_of (kind_of n) x) (ref_var own a b x) r =
+      record { shapes_held = rw w.shapes_are s; pairs_held = rw w.equations_are q; sizes_held = w.count_is ∙ z } in
       record { rule_held = subst (λ (p : Plan). RuleOf p (ref_var own a b x) r) e h }
 
-  pub rule_at : (n : ℕ) → k ≡ n → PlanShapes n own a b x r → PlanPairs n own a b x r → PlanSizes n x r → RuleHeld k own a b x r
+  pub rule_at : (n : ℕ) → k ≡ n → PlanShapes n own a b x shapes → PlanPairs n own a b x eqns → PlanSizes n x shapes eqns → RuleHeld k own a b x r
   rule_at n e = rule_like n (ap (λ m. plan_of (kind_of m) x) (sym e))
 
   -- Two or three codes with the same plan.
   pub rule_two : (n : ℕ) → n ≤ k → k < n + 2 → plan_of (kind_of n) x ≡ plan_of (kind_of (n + 1)) x →
-      PlanShapes n own a b x r → PlanPairs n own a b x r → PlanSizes n x r → RuleHeld k own a b x r
+      PlanShapes n own a b x shapes → PlanPairs n own a b x eqns → PlanSizes n x shapes eqns → RuleHeld k own a b x r
   rule_two n l u e = go (ℕ_discrete k n)
     where
-      go : Dec (k ≡ n) → PlanShapes n own a b x r → PlanPairs n own a b x r → PlanSizes n x r → RuleHeld k own a b x r
+      go : Dec (k ≡ n) → PlanShapes n own a b x shapes → PlanPairs n own a b x eqns → PlanSizes n x shapes eqns → RuleHeld k own a b x r
       go (yes q) = rule_at n q
       go (no g) = let q : n + 1 ≡ k = omega arith in rule_like n (e ∙ ap (λ m. plan_of (kind_of m) x) q)
 
   pub rule_three : (n : ℕ) → n ≤ k → k < n + 3 → plan_of (kind_of n) x ≡ plan_of (kind_of (n + 1)) x →
-      plan_of (kind_of n) x ≡ plan_of (kind_of (n + 2)) x → PlanShapes n own a b x r → PlanPairs n own a b x r → PlanSizes n x r →
+      plan_of (kind_of n) x ≡ plan_of (kind_of (n + 2)) x → PlanShapes n own a b x shapes → PlanPairs n own a b x eqns → PlanSizes n x shapes eqns →
       RuleHeld k own a b x r
   rule_three n l u e f = go (ℕ_discrete k (n + 2))
     where
-      go : Dec (k ≡ n + 2) → PlanShapes n own a b x r → PlanPairs n own a b x r → PlanSizes n x r → RuleHeld k own a b x r
+      go : Dec (k ≡ n + 2) → PlanShapes n own a b x shapes → PlanPairs n own a b x eqns → PlanSizes n x shapes eqns → RuleHeld k own a b x r
       go (yes q) = rule_like n (f ∙ ap (λ m. plan_of (kind_of m) x) (sym q))
       go (no g) = rule_two n l (omega arith) e
 
@@ -88,15 +94,13 @@ bool_code = (omega arith, inr (inl refl))
 pub given_code : {x : ℕ} → x < 32 → (16 + x < 4096) × AtomCode (16 + x)
 given_code {x} h = (omega arith, inr (inr (omega arith, omega arith)))
 
--- The words where nothing is said.
-abbrev pub no_rule : List ℕ
-no_rule = 0 ∷ 0 ∷ 0 ∷ 0 ∷ 0 ∷ 0 ∷ 0 ∷ 0 ∷ 1 ∷ []
-
-module _ {k own a b x : ℕ} where
-  no_rule_law : plan_of (kind_of k) x ≡ only openᶠ → RuleHeld k own a b x no_rule
+-- A node of whose types nothing is said.
+module _ {k own a b x : ℕ} {r : NodeWords} (w : WordsOf (0 ∷ []) [] r) where
+  no_rule_law : plan_of (kind_of k) x ≡ only openᶠ → RuleHeld k own a b x r
   no_rule_law e =
-      let h : RuleOf (only openᶠ) (ref_var own a b x) no_rule = record { shapes_held = (open_word, tt); pairs_held = tt; sizes_held = refl } in
-      record { rule_held = subst (λ (p : Plan). RuleOf p (ref_var own a b x) no_rule) (sym e) h }
+      let h : RuleOf (only openᶠ) (ref_var own a b x) r =
+      record { shapes_held = (rw w.shapes_are open_word, tt); pairs_held = tt; sizes_held = w.count_is } in
+      record { rule_held = subst (λ (p : Plan). RuleOf p (ref_var own a b x) r) (sym e) h }
 
 -- Kinds 0 to 5, and the codes of no kind, by computation over the list of kinds.
 low_plan : (k x : ℕ) → k < 6 → plan_of (kind_of k) x ≡ only openᶠ
@@ -115,14 +119,14 @@ above_kind : (k : ℕ) → 44 ≤ k → kind_of k ≡ nothing
 unfolding kind_of
 above_kind k h = get_or-eq_default kinds nothing h
 
-module _ {k own a b x : ℕ} where
-  pub low_rule : k < 6 → RuleHeld k own a b x no_rule
-  low_rule h = no_rule_law (low_plan k x h)
+module _ {k own a b x : ℕ} {r : NodeWords} (w : WordsOf (0 ∷ []) [] r) where
+  pub low_rule : k < 6 → RuleHeld k own a b x r
+  low_rule h = no_rule_law w (low_plan k x h)
 
-  pub between_rule : 12 ≤ k → k < 20 → RuleHeld k own a b x no_rule
+  pub between_rule : 12 ≤ k → k < 20 → RuleHeld k own a b x r
   between_rule l h =
       let e : 12 + (k - 12) ≡ k = omega arith in
-      no_rule_law (ap (λ o. plan_of o x) (rw e at (between_kind (k - 12) (omega arith))))
+      no_rule_law w (ap (λ o. plan_of o x) (rw e at (between_kind (k - 12) (omega arith))))
 
-  pub above_rule : 44 ≤ k → RuleHeld k own a b x no_rule
-  above_rule h = no_rule_law (ap (λ o. plan_of o x) (above_kind k h))
+  pub above_rule : 44 ≤ k → RuleHeld k own a b x r
+  above_rule h = no_rule_law w (ap (λ o. plan_of o x) (above_kind k h))

@@ -1,12 +1,12 @@
 -- All classes are marked: the two solutions, built with INTEGER and with BOOL at the open classes, and what the marks say of all types that satisfy
 -- the terms. The rounds are those of the marks and one more, for the variables past the end.
 use Prim.Native.Nat.{ℕ, suc, ◌<◌, ◌≤◌}
-use mathlib.Core.Bool.{Bool, true, false}
 use mathlib.Core.List.{List}
-use mathlib.Core.Path.{◌≡◌, ◌∙◌, subst}
+use mathlib.Core.Path.{◌≡◌, subst}
 use native.Mathlib.Omega.{arith}
 use native.Mathlib.Decide.{dec_lt}
 use lib.ListN.{get_or, length}
+use Rattle.std.specs.Prelude.{Result, Ok, Err, is_ok}
 use Rattle.rules.specs.Types.{Ty, INTEGER, BOOL}
 use Rattle.unification.specs.Problem.{unknown, leaf, power, product, PartsBelow}
 use Rattle.unification.specs.Marks.{status_of, status_after}
@@ -15,12 +15,13 @@ use Rattle.unification.specs.Solved.{LeafDeclared}
 use Rattle.unification.proofs.Resolve.{solution, ground_agree, open_differ, val_declared, ground_kept}
 use Rattle.terms.specs.Words.{Term, known, link, term_of}
 use Rattle.terms.specs.Terms.{Satisfies, class_in}
+use Rattle.terms.specs.declared.Stack.{Stack}
 use Rattle.terms.specs.Decided.{class_mark, Closed, TermClosed, TermDeclared, Decided, Decision}
 use Rattle.deciding.specs.Marking.{term_shape, word_shape, term_graph, FlatTo, FlatTerms, MarkSays}
-use Rattle.deciding.specs.Visit.{Cleared, MarkedTo, MarkedOn}
+use Rattle.deciding.specs.declared.Cycle.{Cycle}
+use Rattle.deciding.specs.Visit.{MarkedTo, MarkedOn}
 use Rattle.deciding.proofs.Graphs.{idem, to_sat, from_sat, class_in_law, shape_past, class_past, parts_in}
 use Rattle.deciding.proofs.MarkLaws.{says_later, class_says}
-use Rattle.deciding.proofs.Visits.{rest_start}
 
 atoms_differ : INTEGER ≡ BOOL → ⊥
 atoms_differ e = let z : ◌≡◌ {A = ℕ} 0 1 = cc in omega arith
@@ -99,12 +100,10 @@ module _ {n : ℕ} {ts₀ ts : List ℕ} (f : FlatTo n ts₀ ts n) where
   flat_terms : FlatTerms n ts
   flat_terms = record { terms = f.says.terms; flat = f.flat }
 
-  pub decide_pre : (marks : List ℕ) (k : ℕ) → k ≡ n → length marks ≡ k → Cleared marks k → FlatTerms (length ts) ts × MarkedTo (length ts) ts marks 0
-  decide_pre marks k e l z = rw f.says.terms.len (flat_terms, rest_start (l ∙ e) (rw e at z))
+  outcome : (marks : List ℕ) (after : Stack) (r : Result (Unit {0}) Cycle) → MarkedOn n ts marks after n r → Decision n ts₀ ts marks (is_ok r)
+  outcome marks after (Ok u) m = (f.says, decided flat_terms m.0)
+  outcome marks after (Err e) m = λ θ s. m θ ((f.says.iff θ).0 (s, tt))
 
-  outcome : (marks : List ℕ) (b : Bool) → MarkedOn n ts marks n b → Decision n ts₀ ts marks b
-  outcome marks true m = (f.says, decided flat_terms m)
-  outcome marks false m = λ θ s. m θ ((f.says.iff θ).0 (s, tt))
-
-  pub decision : (marks : List ℕ) (b : Bool) → MarkedOn (length ts) ts marks (length ts) b → Decision n ts₀ ts marks b
-  decision marks b m = outcome marks b (subst (λ (k : ℕ). MarkedOn k ts marks k b) f.says.terms.len m)
+  pub decision : (marks : List ℕ) (after : Stack) (r : Result (Unit {0}) Cycle) → MarkedOn (length ts) ts marks after (length ts) r →
+      Decision n ts₀ ts marks (is_ok r)
+  decision marks after r m = outcome marks after r (subst (λ (k : ℕ). MarkedOn k ts marks after k r) f.says.terms.len m)

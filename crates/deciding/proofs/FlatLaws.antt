@@ -1,42 +1,21 @@
 -- One turn of flattening: a link to a link becomes the further link, which goes to a class, since the smaller variables' links do. It says
 -- the same of types, since the first link's variable keeps its own.
-use Prim.Native.Nat.{ℕ, ◌+◌, ◌<◌, ◌≤◌}
+use Prim.Native.Nat.{ℕ, ◌+◌, ◌<◌}
 use mathlib.Core.List.{List}
 use mathlib.Core.Logic.{◌≢◌, inl, inr}
 use mathlib.Core.Path.{◌≡◌, refl, sym, ap, ◌∙◌, subst}
 use native.Mathlib.Omega.{arith}
 use native.Mathlib.Decide.{ℕ_discrete}
-use lib.ListN.{get_or, set, length-set}
+use lib.ListN.{get_or, set, length, length-set}
 use lib.Seq.{get_or-set_same, get_or-set_other, set-get_or}
 use Rattle.rules.specs.Types.{Ty}
-use Rattle.terms.specs.Words.{Term, known, link, term_of, word_form, word_right}
+use Rattle.terms.specs.Words.{link, term_of, word_form, word_right}
 use Rattle.terms.specs.Terms.{TermIn, Terms, MeetsTerm, Satisfies, TermFrom, class_from, class_in}
 use Rattle.terms.proofs.TermLaws.{term_link, link_below, class_known}
-use Rattle.deciding.specs.Marking.{LinkInside, FlattenedTo, FlatTo}
+use Rattle.deciding.specs.Marking.{FlattenedTo, FlatTo}
 use Rattle.deciding.proofs.Graphs.{class_down}
 
--- ---- the word that a link becomes
-pub keep_other : (ts : List ℕ) (w : ℕ) → word_form w ≢ 4 → FlattenedTo ts w w
-keep_other ts w ne = inl (refl, λ e. absurd (ne e))
-
-module _ (ts : List ℕ) (w x : ℕ) (k : word_form w ≡ 4) (e : x ≡ word_right w) where
-  pub keep_link : word_form (get_or ts x 0) ≢ 4 → FlattenedTo ts w w
-  keep_link ne = inl (refl, λ k. rw (← e) ne)
-
-  pub take_link : word_form (get_or ts x 0) ≡ 4 → FlattenedTo ts w (get_or ts x 0)
-  take_link l = inr (k, rw (← e) l, rw e refl)
-
 -- ---- the terms
-old_by : (n : ℕ) (ts : List ℕ) (v : ℕ) → v < n → (x : Term) → term_of (get_or ts v 0) ≡ x → TermFrom n ts x
-old_by n ts v h (known s) e = (v, h, e)
-old_by n ts v h (link u) e = tt
-
-pub flat_start : {n : ℕ} {ts : List ℕ} → Terms n ts → FlatTo n ts ts 0
-flat_start {n} {ts} t = record {
-  says = record { terms = t; iff = λ θ. ((λ x. x.0), (λ x. (x, tt))); old = λ v h. old_by n ts v h (term_of (get_or ts v 0)) refl };
-  flat = λ u h. absurd (omega arith);
-}
-
 module _ {n : ℕ} {ts₀ ts : List ℕ} {v : ℕ} (f : FlatTo n ts₀ ts v) (h : v < n) where
   abbrev t : Terms n ts
   t = f.says.terms
@@ -148,8 +127,5 @@ module _ {n : ℕ} {ts₀ ts : List ℕ} {v : ℕ} (f : FlatTo n ts₀ ts v) (h 
   flat_turn r (inl s) = rw (s.0, set-get_or ts v 0) (record { says = f.says; flat = stays s.1 })
   flat_turn r (inr s) = rw s.2 (shorter s.0 s.1)
 
-  pub flat_inside : LinkInside ts (get_or ts v 0)
-  flat_inside k = omega (arith, link_below t h refl k, t.len)
-
-pub flat_end : {n : ℕ} {ts₀ ts : List ℕ} {v : ℕ} → FlatTo n ts₀ ts v → n ≤ v → FlatTo n ts₀ ts n
-flat_end f h = record { says = f.says; flat = λ u hu. f.flat u (omega arith) }
+  pub flat_asks : Terms (length ts) ts × (v < length ts)
+  flat_asks = rw t.len (t, h)

@@ -262,13 +262,6 @@ visit_end {n} {ts} {marks} {stack} {h} z w = record {
   still = λ v hv e. let o = w.found v hv e in omega (arith, o.1);
 }
 
-pub clear_turn : (marks : List ℕ) (i : ℕ) → i < length marks → Cleared marks i → Cleared (set marks i 0) (i + 1)
-clear_turn marks i h z v hv = go (ℕ_discrete v i)
-  where
-    go : Dec (v ≡ i) → get_or (set marks i 0) v 0 ≡ 0
-    go (yes e) = rw e (get_or-set_same marks i 0 0 h)
-    go (no ne) = get_or-set_other marks i v 0 0 ne ∙ z v (omega arith)
-
 pub rest_start : {n : ℕ} {ts marks : List ℕ} → length marks ≡ n → Cleared marks n → MarkedTo n ts marks 0
 rest_start {n} {ts} {marks} len z = record {
   rest = record {
@@ -279,6 +272,3 @@ rest_start {n} {ts} {marks} len z = record {
   };
   each = λ c hc. absurd (omega arith);
 }
-
-pub clear_end : (marks : List ℕ) {i n : ℕ} → Cleared marks i → n ≤ i → Cleared marks n
-clear_end marks z h v hv = z v (omega arith)

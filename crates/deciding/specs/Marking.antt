@@ -1,5 +1,5 @@
 -- Terms as a graph of classes, the mark of a class from the marks of its parts, and what a mark says.
-use Rattle.std.specs.Prelude.{ℕ, ◌+◌, ◌-◌, ◌*◌, ◌/◌, ◌%◌, ◌<◌, ◌≤◌, min, max, Bool, true, false, List, ◌≢◌, ◌⊎◌, ◌≡◌, get_or, length}
+use Rattle.std.specs.Prelude.{ℕ, ◌+◌, ◌-◌, ◌*◌, ◌/◌, ◌%◌, ◌<◌, ◌≤◌, min, max, Bool, true, false, List, Option, Some, None, ◌≢◌, ◌⊎◌, ◌≡◌, get_or, length}
 use Rattle.rules.specs.Types.{Ty, weightᵀ}
 use Rattle.unification.specs.Problem.{Shape, unknown, leaf, power, product}
 use Rattle.unification.specs.Classes.{Graph}
@@ -18,10 +18,6 @@ word_shape ts v = term_shape (term_of (get_or ts v 0))
 
 abbrev pub term_graph : List ℕ → Graph
 term_graph ts = record { cls = class_in ts; sh = word_shape ts }
-
--- The variable that a link goes to has a term.
-abbrev pub LinkInside : List ℕ → ℕ → Type 0
-LinkInside ts w = word_form w ≡ 4 → word_right w < length ts
 
 -- A link to a link becomes the further link; any other word stays.
 abbrev pub FlattenedTo : List ℕ → ℕ → ℕ → Type 0
@@ -92,9 +88,15 @@ pub record PartLeft (ts marks : List ℕ) (c p : ℕ) : Type 0 where
   pub below : p < length ts
   pub bare : Final (get_or marks p 0) → ⊥
 
--- All parts of c are marked, or p is one that is not.
-abbrev pub NextPart : (ts marks : List ℕ) → ℕ → ℕ → Type 0
-NextPart ts marks c p = ((p ≡ length ts) × PartsFinal ts marks c) ⊎ PartLeft ts marks c p
+-- The class of part v has no mark that stays; none where it has one.
+abbrev pub PartUnmarked : (ts marks : List ℕ) → ℕ → Option ℕ → Type 0
+PartUnmarked ts marks v (Some p) = (p ≡ class_in ts v) × (p < length ts) × (Final (get_or marks p 0) → ⊥)
+PartUnmarked ts marks v None = Final (class_mark ts marks v)
+
+-- A part of c that is not marked, or all are marked.
+abbrev pub NextPart : (ts marks : List ℕ) → ℕ → Option ℕ → Type 0
+NextPart ts marks c (Some p) = PartLeft ts marks c p
+NextPart ts marks c None = PartsFinal ts marks c
 
 -- What the mark m says of v and its status: it is resolved, and ground where m is below 128; then m is its weight, up to 65.
 pub record MarkFits (n : ℕ) (ts : List ℕ) (status v m : ℕ) : Type 0 where

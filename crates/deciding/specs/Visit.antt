@@ -1,9 +1,11 @@
 -- What a visit keeps: the classes on the stack wait for their parts, each a part of the one below; the other marks stay.
-use Rattle.std.specs.Prelude.{ℕ, zero, suc, ◌+◌, ◌*◌, ◌<◌, ◌≤◌, Bool, true, false, List, ◌≢◌, ◌≡◌, get_or, length}
+use Rattle.std.specs.Prelude.{ℕ, zero, suc, ◌+◌, ◌*◌, ◌<◌, ◌≤◌, Bool, true, false, List, Result, Ok, Err, ◌≢◌, ◌≡◌, get_or, length}
 use Rattle.rules.specs.Types.{Ty, weightᵀ}
 use Rattle.unification.specs.Marks.{count_below}
 use Rattle.terms.specs.Terms.{Satisfies, class_in}
+use Rattle.terms.specs.declared.Stack.{Stack}
 use Rattle.deciding.specs.Marking.{MarksSay}
+use Rattle.deciding.specs.declared.Cycle.{Cycle}
 
 abbrev pub NoTypes : (n : ℕ) (ts : List ℕ) → Type 0
 NoTypes n ts = (θ : ℕ → Ty) → Satisfies θ n ts → ⊥
@@ -55,12 +57,20 @@ Grows n marks marks' = (v : ℕ) → v < n → get_or marks v 0 ≢ 0 → get_or
 abbrev pub to_visit : (n : ℕ) (marks : List ℕ) (h : ℕ) → ℕ
 to_visit n marks h = 2 * unmarked n marks + h
 
--- One turn of the visit goes from the height h to k; a k above n says that a class is part of itself.
-pub record VisitTurn (n : ℕ) (ts marks : List ℕ) (h : ℕ) (marks' stack' : List ℕ) (k : ℕ) : Type 0 where
-  pub stuck : n < k → NoTypes n ts
-  pub goes : k ≤ n → Visiting n ts marks' stack' k
-  pub less : k ≤ n → to_visit n marks' k < to_visit n marks h
+-- One turn of the visit goes from the height h to k.
+pub record VisitGoes (n : ℕ) (ts marks : List ℕ) (h : ℕ) (marks' stack' : List ℕ) (k : ℕ) : Type 0 where
+  pub goes : Visiting n ts marks' stack' k
+  pub less : to_visit n marks' k < to_visit n marks h
   pub grows : Grows n marks marks'
+
+-- So it does, from one stack to the next; or a class is part of itself.
+abbrev pub VisitTurn : (n : ℕ) (ts marks : List ℕ) (before : Stack) (marks' : List ℕ) (after : Stack) → Result (Unit {0}) Cycle → Type 0
+VisitTurn n ts marks before marks' after (Ok u) = VisitGoes n ts marks before.height marks' after.words.now after.height
+VisitTurn n ts marks before marks' after (Err e) = NoTypes n ts
+
+-- The stack is empty, and has room.
+abbrev pub StackRoom : ℕ → Stack → Type 0
+StackRoom n s = (s.height ≡ 0) × (n + 2 ≤ length s.words.now)
 
 -- v is a class without a mark.
 pub record VisitNext (n : ℕ) (ts marks : List ℕ) (v : ℕ) : Type 0 where
@@ -68,16 +78,16 @@ pub record VisitNext (n : ℕ) (ts marks : List ℕ) (v : ℕ) : Type 0 where
   pub class : class_in ts v ≡ v
   pub bare : get_or marks v 0 ≡ 0
 
--- Class v and what it is made of have marks; or no types satisfy the terms.
-abbrev pub VisitedAt : (n : ℕ) (ts marks marks' : List ℕ) (v : ℕ) → Bool → Type 0
-VisitedAt n ts marks marks' v true = Resting n ts marks' × Grows n marks marks' × (get_or marks' v 0 ≢ 0)
-VisitedAt n ts marks marks' v false = NoTypes n ts
+-- Class v and what it is made of have marks, and the stack is empty; or no types satisfy the terms.
+abbrev pub VisitedAt : (n : ℕ) (ts marks marks' : List ℕ) (after : Stack) (v : ℕ) → Result (Unit {0}) Cycle → Type 0
+VisitedAt n ts marks marks' after v (Ok u) = Resting n ts marks' × Grows n marks marks' × (get_or marks' v 0 ≢ 0) × StackRoom n after
+VisitedAt n ts marks marks' after v (Err e) = NoTypes n ts
 
 -- The classes below v have marks.
 pub record MarkedTo (n : ℕ) (ts marks : List ℕ) (v : ℕ) : Type 0 where
   pub rest : Resting n ts marks
   pub each : (c : ℕ) → c < v → class_in ts c ≡ c → get_or marks c 0 ≢ 0
 
-abbrev pub MarkedOn : (n : ℕ) (ts marks : List ℕ) (v : ℕ) → Bool → Type 0
-MarkedOn n ts marks v true = MarkedTo n ts marks v
-MarkedOn n ts marks v false = NoTypes n ts
+abbrev pub MarkedOn : (n : ℕ) (ts marks : List ℕ) (after : Stack) (v : ℕ) → Result (Unit {0}) Cycle → Type 0
+MarkedOn n ts marks after v (Ok u) = MarkedTo n ts marks v × StackRoom n after
+MarkedOn n ts marks after v (Err e) = NoTypes n ts

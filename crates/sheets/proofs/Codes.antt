@@ -1,14 +1,12 @@
 -- The codes of a type, written from the words of its classes: what each case of the recursion says of the whole type.
 use Prim.Native.Nat.{ℕ, zero, suc, ◌+◌, ◌%◌, ◌≤◌, ◌<◌}
-use mathlib.Core.Bool.{Bool, true, false}
+use mathlib.Core.Bool.{true, false}
 use mathlib.Core.List.{List, [], ◌∷◌, ◌++◌}
 use mathlib.Core.Logic.{inl, inr}
 use mathlib.Core.Path.{◌≡◌, refl, sym, ap, ◌∙◌, subst}
 use native.Mathlib.Nat.{add-zero}
 use native.Mathlib.Numerals.{add-one}
 use native.Mathlib.Omega.{arith}
-use borrow.Author.Tests.{ltb-true, ltb-false}
-use lib.Dec.{ltb}
 use lib.ListN.{get_or, length, set}
 use lib.Seq.{sets}
 use Rattle.rules.specs.Types.{Ty, atom, POW, ◌⊗◌, atom_code, weightᵀ, prefix}
@@ -18,6 +16,9 @@ use Rattle.unification.specs.Codes.{AtomCode}
 use Rattle.terms.specs.Words.{Term, known, link, word_form, word_left, word_right, term_from, term_of}
 use Rattle.terms.specs.Terms.{TermBelow, Terms, MeetsTerm, Satisfies, class_from, class_in}
 use Rattle.terms.specs.Decided.{Closed, TermClosed, Decided}
+use Rattle.terms.specs.Decoding.{TermIs}
+use Rattle.terms.specs.declared.Term as declared
+use Rattle.terms.specs.declared.Term.TheVariants.{Open, Atom, Power, Product, Link}
 use Rattle.sheets.specs.Steps.{LeafIf, word_code, CodesPut, TypePut}
 
 weight_pos : (t : Ty) → 1 ≤ weightᵀ t
@@ -46,28 +47,13 @@ code_byte c (inl e) = omega arith
 code_byte c (inr (inl e)) = omega arith
 code_byte c (inr (inr h)) = omega (arith, h.1)
 
--- `code`: the word's form is less than 2, 2, or more.
-pub code_leaf : (f l : ℕ) → f < 2 → word_code f l ≡ l % 256
-code_leaf zero l h = refl
-code_leaf (suc zero) l h = refl
-code_leaf (suc (suc f)) l h = absurd (omega arith)
-
-pub code_product : (f l : ℕ) → 3 ≤ f → word_code f l ≡ 4
-code_product zero l h = absurd (omega arith)
-code_product (suc zero) l h = absurd (omega arith)
-code_product (suc (suc zero)) l h = absurd (omega arith)
-code_product (suc (suc (suc f))) l h = refl
-
--- `is_leaf`: by the first test, then by the second; and what a test of it says of the same form.
-pub leaf_low : (f : ℕ) → f < 2 → LeafIf f true
-leaf_low f h = ((λ e. omega arith), (λ e. omega arith))
-
-pub leaf_by : (f : ℕ) (b : Bool) → 2 ≤ f → ltb 3 f ≡ b → LeafIf f b
-leaf_by f true h e = ((λ g. omega (arith, ltb-true 3 f e)), (λ g. omega (arith, ltb-true 3 f e)))
-leaf_by f false h e = (h, ltb-false 3 f e)
-
-pub leaf_same : {f g : ℕ} {a b : Bool} → f ≡ g → a ≡ b → LeafIf f a → LeafIf g b
-leaf_same {f} {g} {a} {b} e h l = subst (LeafIf g) h (subst (λ x. LeafIf x a) e l)
+-- A term that is neither has no parts.
+pub leaf_term : (w : ℕ) (t : declared.Term) → TermIs w t → ((v : ℕ) → t ≡ Power v → ⊥) → ((v u : ℕ) → t ≡ Product v u → ⊥) → LeafIf (word_form w) true
+leaf_term w Open f a b = ((λ e. omega arith), (λ e. omega arith))
+leaf_term w (Atom c) f a b = ((λ e. omega arith), (λ e. omega arith))
+leaf_term w (Power v) f a b = absurd (a v refl)
+leaf_term w (Product v u) f a b = absurd (b v u refl)
+leaf_term w (Link u) f a b = ((λ e. omega arith), (λ e. omega arith))
 
 -- The codes of a type from those of its parts.
 put_atom : (sheet : List ℕ) (at end l x : ℕ) → AtomCode l → x ≡ l % 256 → CodesPut sheet at end (at + 1) (set sheet at x) (atom (atom_from l))

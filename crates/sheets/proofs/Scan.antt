@@ -3,38 +3,34 @@ use Prim.Native.Nat.{ℕ, ◌+◌, ◌-◌, ◌%◌, ◌≤◌, ◌<◌}
 use mathlib.Core.Bool.{Bool, true, false, true≢false, false≢true}
 use mathlib.Core.List.{List}
 use mathlib.Core.Logic.{inl, inr}
-use mathlib.Core.Option.{Option, none as nothing, some}
-use mathlib.Core.Path.{◌≡◌, refl, sym, ap, ◌∙◌, subst}
+use mathlib.Core.Option.{Option}
+use mathlib.Core.Path.{◌≡◌, refl, sym, ap, ◌∙◌}
 use native.Mathlib.Decide.{dec_lt}
 use native.Mathlib.Omega.{arith}
-use borrow.Author.Count.{below_more}
 use borrow.Author.Tests.{lt-ltb, le-ltb, leb-true, leb-false}
-use lib.Dec.{leb, eqb}
+use lib.Dec.{leb}
+use denote.Param.Members.{Mut}
+use denote.Ref.{Bor}
+use Rattle.std.specs.Fn.{CalledAt}
+use Rattle.std.specs.Iterator.{FindsItem}
+use Rattle.std.specs.declared.ops.Range.{Range}
+use Rattle.std.proofs.iter.Yields.{nat_range_steps}
+use Rattle.std.proofs.lemmas.Iterator.{first_from_Range}
 use lib.ListN.{get_or, length}
-use Rattle.rules.specs.Kinds.{Kind, kind_of, Category, predicate, expression, category_of}
-use Rattle.rules.specs.Tables.{Table, table_of, node_at, kind_at, identifier_count, node_count}
+use Rattle.rules.specs.Kinds.{Kind, expression}
+use Rattle.rules.specs.Tables.{Table, table_of, kind_at, identifier_count, node_count}
 use Rattle.rules.specs.Readable.{CategoryIs}
 use Rattle.rules.specs.Verdict.{Place}
 use Rattle.laws.proofs.TableLaws.{binds_length, nodes_length}
-use Rattle.table.specs.Codes.{code_of, category_code}
+use Rattle.rules.specs.Reading.{category_is}
+use Rattle.laws.proofs.EndLaws.{T_true, T_false}
+use Rattle.laws.proofs.ReadingLaws.{category_is_right}
 use Rattle.terms.specs.Terms.{class_in}
-use Rattle.typing.specs.Places.{place_var, place_count, LeastPlace}
+use Rattle.typing.specs.Places.{place_var, place_count}
 use Rattle.typing.proofs.Places.{place_below, var_below}
-use Rattle.sheets.specs.Rows.{PlacesIn, MarkBelow}
-use Rattle.sheets.specs.Steps.{PlaceOf, TypedIf, FailsIf, start_var, StartIn}
-
--- The code of a node's category tells whether it is an expression.
-is_expression_law : (c : Category) → eqb (code_of c) 2 ≡ true → c ≡ expression
-is_expression_law predicate e = absurd (false≢true e)
-is_expression_law expression e = refl
-
-code_typed : (o : Option Kind) → eqb (category_code o) 2 ≡ true → CategoryIs expression o
-code_typed nothing e = absurd (false≢true e)
-code_typed (some k) e = is_expression_law (category_of k) e
-
-code_blank : (o : Option Kind) → eqb (category_code o) 2 ≡ false → CategoryIs expression o → ⊥
-code_blank nothing e h = h
-code_blank (some k) e h = true≢false (sym (ap (λ c. eqb (code_of c) 2) h) ∙ e)
+use Rattle.std.specs.Prelude.{Option as Found, None, Some, MatchOption}
+use Rattle.sheets.specs.Rows.{PlacesIn, MarkBelow, FirstPlace}
+use Rattle.sheets.specs.Steps.{PlaceOf, TypedIf, FailsIf, start_var}
 
 -- A node's place has a type just where the node is an expression.
 module _ (tb : Table) (p : ℕ) (above : length tb.binds ≤ p) where
@@ -48,9 +44,9 @@ module _ (tb : Table) (p : ℕ) (above : length tb.binds ≤ p) where
   place_node (inl l) = absurd (omega arith)
   place_node (inr (n, l, t, e)) = let q : p - length tb.binds ≡ n = omega arith in rw q t
 
-  typed_by : p < place_count tb → (b : Bool) → eqb (category_code kind_here) 2 ≡ b → TypedIf tb p b
-  typed_by h true e = node_place_law h (code_typed kind_here e)
-  typed_by h false e = λ w. code_blank kind_here e (place_node w)
+  typed_by : p < place_count tb → (b : Bool) → category_is expression kind_here ≡ b → TypedIf tb p b
+  typed_by h true e = node_place_law h ((category_is_right expression kind_here).0 ((T_true _).1 e))
+  typed_by h false e = λ w. (T_false _).1 e ((category_is_right expression kind_here).1 (place_node w))
 
 -- `has_type` at an identifier and at a node.
 pub typed_name : {bs : List ℕ} {i p : ℕ} → PlaceOf bs i p → p < i → TypedIf (table_of bs) p true
@@ -59,11 +55,11 @@ typed_name {bs} w h = inl (omega (arith, binds_length bs, w.names))
 pub node_in : {bs : List ℕ} {i p : ℕ} → PlaceOf bs i p → i ≤ p → p - i < node_count bs
 node_in {bs} w h = omega (arith, binds_length bs, nodes_length bs, w.names, w.below)
 
-pub typed_node : {bs : List ℕ} {i p : ℕ} (k c : ℕ) → PlaceOf bs i p → i ≤ p → k ≡ (node_at (table_of bs).nodes (p - i)).kind →
-    c ≡ category_code (kind_of k) → TypedIf (table_of bs) p (eqb c 2)
-typed_node {bs} {i} {p} k c w h e f =
+pub typed_node : {bs : List ℕ} {i p : ℕ} (r : Bool) → PlaceOf bs i p → i ≤ p →
+    r ≡ category_is expression (kind_at (table_of bs).nodes (p - i)) → TypedIf (table_of bs) p r
+typed_node {bs} {i} {p} r w h e =
     let q : i ≡ length (table_of bs).binds = omega (arith, binds_length bs, w.names) in
-    rw (f, e, q) (typed_by (table_of bs) p (omega arith) w.below _ refl)
+    rw (e, q) (typed_by (table_of bs) p (omega arith) w.below _ refl)
 
 -- The number of places as the code finds it.
 pub count_places : (bs : List ℕ) (i n : ℕ) → i ≡ identifier_count bs → n ≡ node_count bs → i + n ≡ place_count (table_of bs)
@@ -75,9 +71,6 @@ start_name i starts p h = rw (lt-ltb p i h)
 
 pub start_node : (i : ℕ) (starts : List ℕ) (p : ℕ) → i ≤ p → start_var i starts p ≡ get_or starts (p - i) 0 % 4096
 start_node i starts p h = rw (le-ltb p i h)
-
-pub start_below : {ts starts : List ℕ} {i p v : ℕ} → StartIn ts starts i p → start_var i starts p ≡ v → v < length ts
-start_below {ts} s e = subst (λ x. x < length ts) e s.below
 
 -- The class of the same variable.
 pub same_class : (ts : List ℕ) {v u c : ℕ} → u ≡ v → (c ≡ class_in ts v) × (c < length ts) → (c ≡ class_in ts u) × (c < length ts)
@@ -99,12 +92,15 @@ module _ {bs : List ℕ} {at : ℕ} {ts starts marks : List ℕ} (pl : PlacesIn 
         go (yes h) = rw (← q, lt-ltb p i h)
         go (no h) = rw (← q, le-ltb p i (omega arith)) (pl.starts_are (p - i) (omega (arith, w.below, q)))
 
-    pub start_in : StartIn ts starts i p
-    start_in = record {
-      terms = pl.terms;
-      inside = omega (arith, binds_length bs, w.names, w.below, pl.long);
-      below = rw place_start (covered p w.below);
-    }
+    -- So is what is read of a node's variable.
+    pub read_name : p < i → p ≡ place_var (table_of bs) p
+    read_name h = sym (start_name i starts p h) ∙ place_start
+
+    pub read_node : i ≤ p → {v : ℕ} → v ≡ get_or starts (p - i) 0 % 4096 → v ≡ place_var (table_of bs) p
+    read_node h e = e ∙ sym (start_node i starts p h) ∙ place_start
+
+    pub read_below : {v : ℕ} → v ≡ place_var (table_of bs) p → v < length ts
+    read_below e = omega (arith, e, covered p w.below)
 
 -- A place without a type fails nothing.
 pub fails_blank : (tb : Table) (P : ℕ → Type 0) (p : ℕ) (b : Bool) → TypedIf tb p b → b ≡ false → FailsIf tb P p false
@@ -129,25 +125,24 @@ above_typed tb ts marks limit p c h e =
     same : get_or marks c 0 ≡ get_or marks (class_in ts (place_var tb p)) 0
     same = ap (λ x. get_or marks x 0) e
 
--- A scan for the least place where P fails: P holds at the places passed.
+-- `find` over the numbers of the places: what it answers is the least place where P fails, if the closure tells where that is and leaves its
+-- captures as they are.
 module _ (tb : Table) (P : ℕ → Type 0) where
-  abbrev pub HoldsBelow : ℕ → Type 0
-  HoldsBelow p = (q : ℕ) → q < p → Place tb q → P q
+  module _ {F : Type 0} {g : Mut F (Bor ℕ × Unit {0}) Bool} {m : ℕ} (f : F) (r : Found ℕ) (u : Range ℕ) where
+    pub finds_first : m ≡ place_count tb → FindsItem nat_range_steps g (record { start = 0; end = m }) f r u →
+        ((x : ℕ) (q : F) → CalledAt g f x true q → FailsIf tb P x true) → ((x : ℕ) (q : F) → CalledAt g f x false q → (q ≡ f) × FailsIf tb P x false) →
+        FirstPlace tb P r
+    finds_first e found bad good = go r (first_from_Range _ u f r (λ k. FailsIf tb P k true) (λ k. FailsIf tb P k false) found bad good)
+      where
+        go : (r : Found ℕ) →
+            MatchOption r ((k : ℕ) → 0 ≤ k → k < m → FailsIf tb P k false)
+            (λ i. (0 ≤ i) × (i < m) × FailsIf tb P i true × ((k : ℕ) → 0 ≤ k → k < i → FailsIf tb P k false)) → FirstPlace tb P r
+        go None h = record { inside = omega arith; below = λ q l. h q (omega arith) (omega arith); here = λ l. absurd (omega arith) }
+        go (Some p) h = (
+          omega (arith, h.1),
+          record { inside = omega (arith, h.1); below = λ q l. h.3 q (omega arith) l; here = λ l. h.2 },
+        )
 
-  pub scan_start : HoldsBelow 0
-  scan_start q h = absurd (omega arith)
-
-  pub scan_turn : (p : ℕ) (b : Bool) → HoldsBelow p → FailsIf tb P p b → b ≡ false → HoldsBelow (p + 1)
-  scan_turn p true w f e = absurd (true≢false e)
-  scan_turn p false w f e = below_more (λ q. Place tb q → P q) p w f
-
-  pub scan_here : (p : ℕ) (b : Bool) → p < place_count tb → HoldsBelow p → FailsIf tb P p b → b ≡ true → LeastPlace tb P p
-  scan_here p true h w f e = record { inside = omega arith; below = w; here = λ l. f }
-  scan_here p false h w f e = absurd (false≢true e)
-
-  pub scan_end : (p : ℕ) → p ≤ place_count tb → place_count tb ≤ p → HoldsBelow p → LeastPlace tb P p
-  scan_end p h l w = record { inside = omega arith; below = w; here = λ g. absurd (omega arith) }
-
--- Where the scan ends at the number of places, P holds at each.
-pub all_places : (tb : Table) (P : ℕ → Type 0) (p : ℕ) → LeastPlace tb P p → p ≡ place_count tb → (q : ℕ) → Place tb q → P q
-all_places tb P p l e q w = l.below q (omega (arith, place_below tb q w)) w
+  -- Where there is none, P holds at each place.
+  pub all_places : FirstPlace tb P None → (q : ℕ) → Place tb q → P q
+  all_places l q w = l.below q (place_below tb q w) w

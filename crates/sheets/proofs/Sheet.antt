@@ -6,11 +6,10 @@ use mathlib.Core.Option.{Option, none as nothing, some}
 use mathlib.Core.Path.{◌≡◌, refl, sym, ap, ap₂, ◌∙◌}
 use native.Mathlib.Decide.{dec_lt}
 use native.Mathlib.Nat.{add-zero, zero-add}
-use native.Mathlib.Numerals.{add-one}
 use native.Mathlib.Omega.{arith}
 use borrow.Author.Tests.{lt-ltb, le-ltb}
-use lib.ListN.{get_or, length, take, drop, replicate, set, length-append, length-drop}
-use lib.Seq.{paste, paste-zero, paste-suc, take_all, sets, sets-eq, take_at, drop-append-le, drop-append-add, length-take-le}
+use lib.ListN.{length, take, drop, replicate, length-append, length-drop}
+use lib.Seq.{paste, take_all, sets, sets-eq, take_at, drop-append-le, drop-append-add, length-take-le}
 use Rattle.rules.specs.Types.{Ty, weightᵀ, prefix, row, empty_row}
 use Rattle.rules.specs.Kinds.{Kind, Category, predicate, expression, category_of}
 use Rattle.rules.specs.Tables.{Table, kind_at}
@@ -160,25 +159,6 @@ sheet_row_law tb θ light p h =
     ap (λ l. take 64 (drop (64 * p) l)) (sheet_rows tb θ)
     ∙ rows_at (place_bytes tb θ) 0 (place_count tb) p (λ j l. row_long tb θ light j (omega arith)) (place_below tb p h)
     ∙ ap (place_bytes tb θ) (zero-add p) ∙ row_typed tb θ p h
-
--- The loop of `clear_row`: i zeros are written.
-zero_at : (n j : ℕ) → get_or {A = ℕ} (replicate n 0) j 0 ≡ 0
-zero_at zero j = refl
-zero_at (suc n) zero = refl
-zero_at (suc n) (suc j) = zero_at n j
-
-pub zeros_start : (sheet : List ℕ) (at : ℕ) → sheet ≡ paste sheet at empty_row 0
-zeros_start sheet at = paste-zero sheet at empty_row
-
-pub zeros_turn : (sheet l : List ℕ) (at i : ℕ) → at + 64 ≤ length sheet → i < 64 → l ≡ paste sheet at empty_row i →
-    set l (at + i) 0 ≡ paste sheet at empty_row (i + 1)
-unfolding empty_row
-zeros_turn sheet l at i h k e =
-    let s = paste-suc sheet at (replicate 64 0) i 0 (omega arith) k in
-    rw (e, add-one i) (ap (λ x. set (paste sheet at (replicate 64 0) i) (at + i) x) (sym (zero_at 64 i)) ∙ s)
-
-pub zeros_end : (sheet l : List ℕ) (at i : ℕ) → i ≤ 64 → 64 ≤ i → l ≡ paste sheet at empty_row i → l ≡ with_row sheet at empty_row
-zeros_end sheet l at i h k e = let q : i ≡ 64 = omega arith in e ∙ ap (paste sheet at empty_row) q
 
 -- Codes written over a row of zeros make the row of the type.
 module _ (front back z vs : List ℕ) (at : ℕ) (e : length front ≡ at) (h : length vs ≤ length z) where

@@ -7,8 +7,10 @@ use native.Mathlib.Decide.{ℕ_discrete}
 use native.Mathlib.Nat.{zero-add}
 use native.Mathlib.Numerals.{add-one}
 use native.Mathlib.Omega.{arith}
-use lib.ListN.{get_or, length, take, drop, set, length-set, length-drop}
-use lib.Seq.{paste, paste-suc, take-paste, length-paste, take_all, take-take, sets, sets-eq, take_at, length-take-le, get_or-drop, get_or-take, get_or-set_same, get_or-set_other}
+use borrow.Rule.Slice.PartMut.{mid_of, put_mid}
+use lib.ListN.{get_or, length, take, drop, set, replicate, length-set, length-drop, length-replicate, get_or-replicate}
+use Rattle.std.proofs.lemmas.Slice.{put_mid-paste}
+use lib.Seq.{paste, take-paste, length-paste, take_all, take-take, sets, sets-eq, take_at, length-take-le, get_or-set_same, get_or-set_other}
 use Rattle.rules.specs.Types.{Ty, weightᵀ, prefix, row, empty_row}
 use Rattle.rules.specs.Tables.{Table, table_of}
 use Rattle.rules.specs.Verdict.{Place, rows_from, sheet_length}
@@ -24,31 +26,16 @@ use Rattle.sheets.proofs.Scan.{covered}
 use Rattle.sheets.proofs.Codes.{class_same}
 use Rattle.sheets.proofs.Sheet.{rows_next, rows_none, rows_at, row_typed, row_blank, row_long, row_codes, sheet_rows}
 
--- The loop of `clear`.
-abbrev pub ZeroTo : List ℕ → ℕ → Type 0
-ZeroTo l i = (c : ℕ) → c < i → get_or l c 0 ≡ 0
+-- Zeros put over a row.
+pub blank_row : (sheet row : List ℕ) (at k : ℕ) → row ≡ replicate (length (mid_of at k sheet)) 0 → k ≡ 64 → at + 64 ≤ length sheet →
+    put_mid at k sheet row ≡ with_row sheet at empty_row
+unfolding empty_row
+blank_row sheet row at k e h room =
+    let long : length (mid_of at k sheet) ≡ 64 = length-take-le k (drop at sheet) (omega (arith, length-drop at sheet)) ∙ h in
+    put_mid-paste at k sheet row empty_row 64 (e ∙ ap (λ m. replicate m 0) long) (sym h) refl
 
-pub zero_turn : (l : List ℕ) (i : ℕ) → i < length l → ZeroTo l i → ZeroTo (set l i 0) (i + 1)
-zero_turn l i h z c k = go (ℕ_discrete c i)
-  where
-    go : Dec (c ≡ i) → get_or (set l i 0) c 0 ≡ 0
-    go (yes e) = rw e (get_or-set_same l i 0 0 h)
-    go (no ne) = get_or-set_other l i c 0 0 ne ∙ z c (omega arith)
-
--- The loop of `copy_codes`: i bytes are copied.
-front_at : (l s : List ℕ) (to i k : ℕ) → to ≤ length l → k < to → get_or (paste l to s i) k 0 ≡ get_or l k 0
-front_at l s to i k h g =
-    sym (get_or-take to (paste l to s i) k 0 g)
-    ∙ ap (λ (x : List ℕ). get_or x k 0) (ap (take to) (append_assoc (take to l) (take i s) (drop (to + i) l)) ∙
-    take_at (take to l) _ to (length-take-le to l h))
-    ∙ get_or-take to l k 0 g
-
-pub copy_turn : (l l' : List ℕ) (from to n i : ℕ) → from + n ≤ to → to + n ≤ length l → i < n → l' ≡ paste l to (drop from l) i →
-    set l' (to + i) (get_or l' (from + i) 0) ≡ paste l to (drop from l) (i + 1)
-copy_turn l l' from to n i h k g e =
-    rw (e, add-one i)
-    (ap (set (paste l to (drop from l) i) (to + i)) (front_at l (drop from l) to i (from + i) (omega arith) (omega arith) ∙ sym (get_or-drop from l i 0))
-    ∙ paste-suc l to (drop from l) i 0 (omega arith) (omega (arith, length-drop from l)))
+pub all_zero : (firsts : List ℕ) (n : ℕ) → firsts ≡ replicate n 0 → AllZero firsts
+all_zero firsts n e c h = ap (λ l. get_or l c 0) e ∙ get_or-replicate n c 0 0 (omega (arith, ap length e, length-replicate {A = ℕ} n 0))
 
 -- Part of the front of a list is part of the list.
 take_front : (k n m : ℕ) (l : List ℕ) → k + n ≤ m → take n (drop k (take m l)) ≡ take n (drop k l)

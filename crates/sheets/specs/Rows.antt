@@ -1,5 +1,5 @@
 -- What the functions over the places of a table take for granted and ensure.
-use Rattle.std.specs.Prelude.{ℕ, ◌%◌, ◌<◌, ◌≤◌, List, ◌≡◌, get_or, length}
+use Rattle.std.specs.Prelude.{ℕ, ◌%◌, ◌<◌, ◌≤◌, List, ◌≡◌, get_or, length, Option, Some, None}
 use Rattle.rules.specs.Types.{Ty}
 use Rattle.rules.specs.Tables.{Table, table_of}
 use Rattle.rules.specs.Verdict.{Place, sheet_of, sheet_length}
@@ -7,7 +7,7 @@ use Rattle.table.specs.Layout.{Laid}
 use Rattle.terms.specs.Terms.{Terms, Satisfies}
 use Rattle.terms.specs.Decided.{class_mark, Decided}
 use Rattle.typing.specs.Equations.{base}
-use Rattle.typing.specs.Places.{place_var}
+use Rattle.typing.specs.Places.{place_var, place_count, LeastPlace}
 
 -- The table is laid out, starts has its nodes' variables, all of its variables have terms, and marks stand beside them.
 pub record PlacesIn (bs : List ℕ) (at : ℕ) (ts starts marks : List ℕ) : Type 0 where
@@ -21,6 +21,11 @@ pub record PlacesIn (bs : List ℕ) (at : ℕ) (ts starts marks : List ℕ) : Ty
 -- The mark of a place is below a limit.
 abbrev pub MarkBelow : (tb : Table) (ts marks : List ℕ) (limit p : ℕ) → Type 0
 MarkBelow tb ts marks limit p = class_mark ts marks (place_var tb p) < limit
+
+-- The least place where P fails, or none where it fails nowhere.
+abbrev pub FirstPlace : Table → (ℕ → Type 0) → Option ℕ → Type 0
+FirstPlace tb P (Some p) = (p < place_count tb) × LeastPlace tb P p
+FirstPlace tb P None = LeastPlace tb P (place_count tb)
 
 -- The sheet and a list of first rows have room, and no place is open or too heavy.
 pub record RowsFit (bs ts marks firsts sheet : List ℕ) : Type 0 where

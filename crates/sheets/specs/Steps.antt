@@ -29,12 +29,6 @@ FailsIf tb P p false = Place tb p → P p
 abbrev pub start_var : ℕ → List ℕ → ℕ → ℕ
 start_var i starts p = cond (ltb p i) p (get_or starts (p - i) 0 % 4096)
 
--- It is one of the terms' variables.
-pub record StartIn (ts starts : List ℕ) (i p : ℕ) : Type 0 where
-  pub terms : Terms (length ts) ts
-  pub inside : p < i + length starts
-  pub below : start_var i starts p < length ts
-
 -- The form is not that of POW nor that of a product.
 abbrev pub LeafIf : ℕ → Bool → Type 0
 LeafIf f true = (f ≡ 2 → ⊥) × (f ≡ 3 → ⊥)

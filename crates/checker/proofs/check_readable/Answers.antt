@@ -1,34 +1,36 @@
 -- Refusal 10, or what the types of a small, a middle or a large table come to.
 use native.Mathlib.Omega.{arith}
-use Rattle.checker.specs.Answers.{Checkable}
+use Rattle.checker.proofs.RoomLaws.{fits_small, fits_middle, fits_large}
 use Rattle.checker.proofs.Telling.{told_final, told_misfit, checkable}
 use Rattle.checker.proofs.check_readable.Goals as goal
 
 pub returns-then-sheet-identifiers : goal.returns-then-sheet-identifiers
 returns-then-sheet-identifiers c =
-    let m = told_misfit c.requires c.identifiers.ensures c.nodes-nodes.ensures _ _ c.if-sheet-identifiers.true c.refused.ensures in
-    told_final _ c.args.sheet.now _ _ m
+    told_final _ c.args.sheet.now _ _ (told_misfit c.requires c.identifiers.ensures c.nodes-nodes.ensures _ c.if-sheet-identifiers.true)
 
-pub check_small-requires : goal.check_small-requires
-check_small-requires c =
-    let fits : Checkable c.args.table.now c.args.sheet.now = checkable c.requires c.identifiers.ensures c.nodes-nodes.ensures _ c.if-sheet-identifiers.false in
-    (fits, omega (arith, c.if-nodes-le64.true, c.nodes-nodes.ensures))
+pub check_sized-requires : goal.check_sized-requires
+check_sized-requires c = record {
+  checkable = checkable c.requires c.identifiers.ensures c.nodes-nodes.ensures _ c.if-sheet-identifiers.false;
+  sizes = fits_small (omega (arith, c.if-nodes-le-SMALL.true, c.nodes-nodes.ensures));
+}
 
-pub returns-then-nodes-le64 : goal.returns-then-nodes-le64
-returns-then-nodes-le64 c = told_final _ c.args.sheet.now _ _ c.check_small.ensures
+pub check_sized-requires-then-nodes-le-MIDDLE : goal.check_sized-requires-then-nodes-le-MIDDLE
+check_sized-requires-then-nodes-le-MIDDLE c = record {
+  checkable = checkable c.requires c.identifiers.ensures c.nodes-nodes.ensures _ c.if-sheet-identifiers.false;
+  sizes = fits_middle (omega (arith, c.if-nodes-le-MIDDLE.true, c.nodes-nodes.ensures));
+}
 
-pub check_middle-requires : goal.check_middle-requires
-check_middle-requires c =
-    let fits : Checkable c.args.table.now c.args.sheet.now = checkable c.requires c.identifiers.ensures c.nodes-nodes.ensures _ c.if-sheet-identifiers.false in
-    (fits, omega (arith, c.if-nodes-le160.true, c.nodes-nodes.ensures))
+pub check_sized-requires-2 : goal.check_sized-requires-2
+check_sized-requires-2 c = record {
+  checkable = checkable c.requires c.identifiers.ensures c.nodes-nodes.ensures _ c.if-sheet-identifiers.false;
+  sizes = fits_large c.requires.header.few_nodes;
+}
 
-pub returns-then-nodes-le160 : goal.returns-then-nodes-le160
-returns-then-nodes-le160 c = told_final _ c.args.sheet.now _ _ c.check_middle.ensures
+pub returns-then-nodes-le-SMALL : goal.returns-then-nodes-le-SMALL
+returns-then-nodes-le-SMALL c = told_final _ c.args.sheet.now _ _ c.check_sized.ensures
 
-pub check_large-requires : goal.check_large-requires
-check_large-requires c =
-    let fits : Checkable c.args.table.now c.args.sheet.now = checkable c.requires c.identifiers.ensures c.nodes-nodes.ensures _ c.if-sheet-identifiers.false in
-    fits
+pub returns-then-nodes-le-MIDDLE : goal.returns-then-nodes-le-MIDDLE
+returns-then-nodes-le-MIDDLE c = told_final _ c.args.sheet.now _ _ c.check_sized-then-nodes-le-MIDDLE.ensures
 
 pub returns : goal.returns
-returns c = told_final _ c.args.sheet.now _ _ c.check_large.ensures
+returns c = told_final _ c.args.sheet.now _ _ c.check_sized-2.ensures

@@ -1,43 +1,39 @@
 -- The terms and the stack say what they said at the start; each turn lowers twice the count of classes and the height.
--- Landmarks: the loop, a turn's start, and the turn.
-use borrow.Author.Rules.{rules}
-use mathlib.Core.Path.{refl, ◌∙◌}
-use Rattle.classes.proofs.Loops.{stack_end, loop_start, loop_turnable, loop_clash, loop_next, loop_small, loop_falls}
+use mathlib.Core.Path.{refl, ap, ◌∙◌}
+use native.Mathlib.Omega.{arith}
+use lib.ListN.{length}
+use Rattle.classes.proofs.Loops.{stack_end, loop_start, loop_turnable, loop_clash, loop_next, loop_falls}
 use Rattle.classes.proofs.merge_stack.Goals as goal
 
-pub loop-h-init : goal.loop-h-init
-loop-h-init c = (loop_start c.requires, refl)
+pub loop-e-init : goal.loop-e-init
+loop-e-init c = (loop_start c.requires, refl)
 
-pub turn-c-requires : goal.turn-c-requires
-turn-c-requires c = loop_turnable c.loop-h.invariant.0 c.loop-h-test.true
+pub turn-requires : goal.turn-requires
+turn-requires c =
+    let s = c.in-Some.ensures in rw (s.rest.words, s.rest.height) (loop_turnable c.loop-e.invariant.0 s.top)
 
-pub shape_of-terms-then-c-eq-CLASH : goal.shape_of-terms-then-c-eq-CLASH
-shape_of-terms-then-c-eq-CLASH c = c.turn-c.auto.terms ∙ c.loop-h.invariant.0.says.terms.len
+pub loop-e-preserved : goal.loop-e-preserved
+loop-e-preserved c =
+    let s = c.in-Some.ensures in
+    let t = rw (s.rest.words, s.rest.height) at c.in_ok-turn.ensures in
+    (loop_next c.loop-e.invariant.0 s.top t, t.long ∙ c.loop-e.invariant.1)
 
-pub shape_of-stack-then-c-eq-CLASH : goal.shape_of-stack-then-c-eq-CLASH
-shape_of-stack-then-c-eq-CLASH c = c.turn-c.auto.stack ∙ c.loop-h.invariant.1
+pub loop-e-smaller : goal.loop-e-smaller
+loop-e-smaller c =
+    let s = c.in-Some.ensures in
+    let t = rw (s.rest.words, s.rest.height) at c.in_ok-turn.ensures in
+    loop_falls c.loop-e.invariant.0 s.top t
 
-pub returns-then-c-eq-CLASH : goal.returns-then-c-eq-CLASH
-returns-then-c-eq-CLASH c = loop_clash c.loop-h.invariant.0 c.loop-h-test.true c.turn-c.ensures c.if-c-eq-CLASH.true
-
-pub overflow_add-h : goal.overflow_add-h
-overflow_add-h c =
-    let x = loop_small c.loop-h.invariant.0 c.loop-h-test.true c.turn-c.ensures c.if-c-eq-CLASH.false in
-    search rules
-
-pub loop-h-smaller : goal.loop-h-smaller
-loop-h-smaller c = loop_falls c.loop-h.invariant.0 c.loop-h-test.true c.turn-c.ensures c.if-c-eq-CLASH.false
-
-pub loop-h-preserved : goal.loop-h-preserved
-loop-h-preserved c =
-    let i = c.loop-h.invariant in
-    (loop_next i.0 c.loop-h-test.true c.turn-c.ensures c.if-c-eq-CLASH.false c.turn-c.auto.stack, c.turn-c.auto.stack ∙ i.1)
-
-pub shape_of-terms : goal.shape_of-terms
-shape_of-terms c = c.loop-h.invariant.0.says.terms.len
-
-pub shape_of-stack : goal.shape_of-stack
-shape_of-stack c = c.loop-h.invariant.1
+pub returns-in_err-turn : goal.returns-in_err-turn
+returns-in_err-turn c =
+    let s = c.in-Some.ensures in
+    rw c.from_residual.ensures (loop_clash c.loop-e.invariant.0 s.top c.in_err-turn.ensures)
 
 pub returns : goal.returns
-returns c = stack_end c.loop-h.invariant.0.says c.loop-h-test.false
+returns c =
+    let i = c.loop-e.invariant in
+    let s = c.in_default.ensures in (
+      stack_end i.0.says s.top,
+      omega (arith, s.rest.height, s.top),
+      ap length s.rest.words ∙ i.1,
+    )

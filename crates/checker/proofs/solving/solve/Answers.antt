@@ -1,100 +1,61 @@
 -- The attempt at all constraints: solved, or the node of the first equation that clashes, or a search among the nodes up to one where there is
 -- no solution.
-use Prim.Native.Nat.{◌≤◌, ◌/◌, ◌%◌}
-use mathlib.Core.Path.{sym, ap, ◌∙◌}
-use native.Mathlib.Omega.{arith}
-use lib.ListN.{get_or}
-use lib.Seq.{length-take-le}
-use Rattle.rules.specs.Tables.{node_count}
-use Rattle.checker.proofs.PosedLaws.{counted, equations_part, terms_part, marks_part, terms_long, marks_long, part_room}
-use Rattle.checker.proofs.SolveLaws.{whole_solved, clash_below, clash_solved, none_upto}
+use mathlib.Core.Path.{◌∙◌}
+use Rattle.checker.proofs.PosedLaws.{all_equations, equations_inside, terms_fit, marks_fit, terms_inside}
+use Rattle.checker.proofs.PosedLaws.{marks_inside, all_variables, marks_beside, whole_room}
+use Rattle.checker.proofs.SolvingLaws.{some_node, node_found}
+use Rattle.checker.proofs.SolveLaws.{whole_solved, clash_below, clash_first, none_upto}
 use Rattle.checker.proofs.solving.solve.Goals as goal
 
 pub slice_bounds-solve_shapes-end : goal.slice_bounds-solve_shapes-end
-slice_bounds-solve_shapes-end c =
-    let p = c.requires in
-    let all : node_count c.args.table.now ≤ node_count c.args.table.now = omega arith in
-    let m = c.equation_count-m.ensures ∙ ap (λ k. get_or c.args.starts.now k 0 / 4096) c.nodes-n.ensures in
-    sym (length-take-le _ _ (equations_part p.ready all m))
+slice_bounds-solve_shapes-end c = equations_inside c.requires.ready c.nodes-n.ensures c.equation_count-m.ensures
 
 pub slice_bounds-solve_shapes-end-2 : goal.slice_bounds-solve_shapes-end-2
-slice_bounds-solve_shapes-end-2 c =
-    let p = c.requires in
-    let all : node_count c.args.table.now ≤ node_count c.args.table.now = omega arith in
-    let v = c.variable-v.ensures ∙ ap (λ k. get_or c.args.starts.now k 0 % 4096) c.nodes-n.ensures in
-    terms_part p.ready all p.work_room v
+slice_bounds-solve_shapes-end-2 c = terms_fit c.requires.ready c.nodes-n.ensures c.requires.work_room c.variable-v.ensures
 
 pub slice_bounds-solve_shapes-end-3 : goal.slice_bounds-solve_shapes-end-3
-slice_bounds-solve_shapes-end-3 c =
-    let p = c.requires in
-    let all : node_count c.args.table.now ≤ node_count c.args.table.now = omega arith in
-    let v = c.variable-v.ensures ∙ ap (λ k. get_or c.args.starts.now k 0 % 4096) c.nodes-n.ensures in
-    sym (length-take-le _ _ (terms_part p.ready all p.work_room v))
-
-pub slice_bounds-solve_shapes-end-4 : goal.slice_bounds-solve_shapes-end-4
-slice_bounds-solve_shapes-end-4 c =
-    let p = c.requires in
-    let all : node_count c.args.table.now ≤ node_count c.args.table.now = omega arith in
-    let v = c.variable-v.ensures ∙ ap (λ k. get_or c.args.starts.now k 0 % 4096) c.nodes-n.ensures in
-    marks_part p.ready all p.work_room v
+slice_bounds-solve_shapes-end-3 c = terms_inside c.requires.ready c.nodes-n.ensures c.requires.work_room c.variable-v.ensures
 
 pub slice_bounds-solve_shapes-end-5 : goal.slice_bounds-solve_shapes-end-5
-slice_bounds-solve_shapes-end-5 c =
-    let p = c.requires in
-    let all : node_count c.args.table.now ≤ node_count c.args.table.now = omega arith in
-    let v = c.variable-v.ensures ∙ ap (λ k. get_or c.args.starts.now k 0 % 4096) c.nodes-n.ensures in
-    sym (length-take-le _ _ (marks_part p.ready all p.work_room v))
+slice_bounds-solve_shapes-end-5 c = marks_fit c.requires.ready c.nodes-n.ensures c.requires.work_room c.variable-v.ensures
 
-pub solve_shapes-attempt-requires : goal.solve_shapes-attempt-requires
-solve_shapes-attempt-requires c =
-    let p = c.requires in
-    let all : node_count c.args.table.now ≤ node_count c.args.table.now = omega arith in
-    let v = c.variable-v.ensures ∙ ap (λ k. get_or c.args.starts.now k 0 % 4096) c.nodes-n.ensures in
-    let m = c.equation_count-m.ensures ∙ ap (λ k. get_or c.args.starts.now k 0 / 4096) c.nodes-n.ensures in
-    let long = terms_long p.ready all p.work_room v in
-    let count = counted p.ready all m in
-    (part_room p.ready all count long c.args.stack.now p.work_room.stack_room, marks_long p.ready all p.work_room v)
+pub slice_bounds-solve_shapes-end-6 : goal.slice_bounds-solve_shapes-end-6
+slice_bounds-solve_shapes-end-6 c = marks_inside c.requires.ready c.nodes-n.ensures c.requires.work_room c.variable-v.ensures
 
-pub node_of-requires : goal.node_of-requires
-node_of-requires c =
-    let p = c.requires in
-    let all : node_count c.args.table.now ≤ node_count c.args.table.now = omega arith in
-    let v = c.variable-v.ensures ∙ ap (λ k. get_or c.args.starts.now k 0 % 4096) c.nodes-n.ensures in
-    let m = c.equation_count-m.ensures ∙ ap (λ k. get_or c.args.starts.now k 0 / 4096) c.nodes-n.ensures in
-    let long = terms_long p.ready all p.work_room v in
-    let count = counted p.ready all m in
-    let a = c.solve_shapes-attempt in
-    clash_below p.ready c.nodes-n.ensures long count _ _ a.result a.ensures c.in-Clash.is
+pub solve_shapes-requires : goal.solve_shapes-requires
+solve_shapes-requires c =
+    whole_room c.requires.ready c.nodes-n.ensures c.requires.work_room c.variable-v.ensures c.equation_count-m.ensures
+
+pub overflow_sub-result : goal.overflow_sub-result
+overflow_sub-result c =
+    let r = c.requires.ready in
+    let variables = all_variables c.requires.ready c.nodes-n.ensures c.requires.work_room c.variable-v.ensures in
+    let count = all_equations c.requires.ready c.nodes-n.ensures c.equation_count-m.ensures in
+    let x = rw c.in-Err-At.field-0-is at c.in-Err-At.ensures in
+    let below = clash_below r c.nodes-n.ensures variables count _ _ x in
+    some_node below c.nodes_to.ensures
 
 pub first_clash-requires-clause-untypable : goal.first_clash-requires-clause-untypable
 first_clash-requires-clause-untypable c =
-    let p = c.requires in
-    let all : node_count c.args.table.now ≤ node_count c.args.table.now = omega arith in
-    let v = c.variable-v.ensures ∙ ap (λ k. get_or c.args.starts.now k 0 % 4096) c.nodes-n.ensures in
-    let m = c.equation_count-m.ensures ∙ ap (λ k. get_or c.args.starts.now k 0 / 4096) c.nodes-n.ensures in
-    let long = terms_long p.ready all p.work_room v in
-    let count = counted p.ready all m in
-    let a = c.solve_shapes-attempt in
-    none_upto p.ready c.nodes-n.ensures long count _ _ a.result a.ensures c.in-Failed.is c.nodes_to-hi.ensures
+    let r = c.requires.ready in
+    let variables = all_variables c.requires.ready c.nodes-n.ensures c.requires.work_room c.variable-v.ensures in
+    let count = all_equations c.requires.ready c.nodes-n.ensures c.equation_count-m.ensures in
+    let x = rw c.in-Err-UpTo.field-0-is at c.in-Err-UpTo.ensures in
+    none_upto r c.nodes-n.ensures variables count c.solve_shapes.new.terms c.solve_shapes.new.marks x c.nodes_to-hi.ensures
 
-pub returns-in-Solved : goal.returns-in-Solved
-returns-in-Solved c =
-    let p = c.requires in
-    let all : node_count c.args.table.now ≤ node_count c.args.table.now = omega arith in
-    let v = c.variable-v.ensures ∙ ap (λ k. get_or c.args.starts.now k 0 % 4096) c.nodes-n.ensures in
-    let m = c.equation_count-m.ensures ∙ ap (λ k. get_or c.args.starts.now k 0 / 4096) c.nodes-n.ensures in
-    let long = terms_long p.ready all p.work_room v in
-    let count = counted p.ready all m in
-    let a = c.solve_shapes-attempt in
-    whole_solved p.ready c.nodes-n.ensures long count _ _ a.result a.ensures c.in-Solved.is _ _ (a.auto.marks ∙ marks_long p.ready all p.work_room v)
+pub returns-in-Ok-clause-solved : goal.returns-in-Ok-clause-solved
+returns-in-Ok-clause-solved c =
+    let r = c.requires.ready in
+    let variables = all_variables c.requires.ready c.nodes-n.ensures c.requires.work_room c.variable-v.ensures in
+    let count = all_equations c.requires.ready c.nodes-n.ensures c.equation_count-m.ensures in
+    whole_solved r c.nodes-n.ensures variables count _ _ c.in-Ok.ensures _ _
+    (c.solve_shapes.auto.marks ∙ marks_beside c.requires.ready c.nodes-n.ensures c.requires.work_room c.variable-v.ensures)
 
-pub returns-in-Clash : goal.returns-in-Clash
-returns-in-Clash c =
-    let p = c.requires in
-    let all : node_count c.args.table.now ≤ node_count c.args.table.now = omega arith in
-    let v = c.variable-v.ensures ∙ ap (λ k. get_or c.args.starts.now k 0 % 4096) c.nodes-n.ensures in
-    let m = c.equation_count-m.ensures ∙ ap (λ k. get_or c.args.starts.now k 0 / 4096) c.nodes-n.ensures in
-    let long = terms_long p.ready all p.work_room v in
-    let count = counted p.ready all m in
-    let a = c.solve_shapes-attempt in
-    clash_solved p.ready c.nodes-n.ensures long count _ _ a.result a.ensures c.in-Clash.is _ _ c.node_of.ensures
+pub returns-in-Err-At-clause-solved : goal.returns-in-Err-At-clause-solved
+returns-in-Err-At-clause-solved c =
+    let r = c.requires.ready in
+    let variables = all_variables c.requires.ready c.nodes-n.ensures c.requires.work_room c.variable-v.ensures in
+    let count = all_equations c.requires.ready c.nodes-n.ensures c.equation_count-m.ensures in
+    let x = rw c.in-Err-At.field-0-is at c.in-Err-At.ensures in
+    let below = clash_below r c.nodes-n.ensures variables count _ _ x in
+    clash_first r c.nodes-n.ensures variables count _ _ x (node_found below c.nodes_to.ensures)

@@ -1,19 +1,20 @@
 -- A clash in an equation's parts fails at once; else the terms are decided, and fail by a cycle or are solved.
-use mathlib.Core.Path.{sym, ◌∙◌}
 use Rattle.checker.proofs.SolvingLaws.{decide_gives}
-use Rattle.checker.proofs.AttemptLaws.{terms_of, failed_cycle, decided_all}
+use Rattle.checker.proofs.AttemptLaws.{merged_solves, merged_fails, clash_solves}
 use Rattle.checker.proofs.solving.solve_shapes.Goals as goal
 
-pub returns-then-not-decide : goal.returns-then-not-decide
-returns-then-not-decide c =
-    let e = sym c.is_inside.ensures ∙ c.if-is_inside.false in
-    let s = terms_of _ _ _ _ c.merge_shapes-merged.result c.merge_shapes-merged.ensures e in
-    failed_cycle _ _ _ _ _ _ c.merge_shapes-merged.result c.merge_shapes-merged.ensures e c.decide.result
-    (decide_gives s _ _ c.decide.result c.decide.ensures) c.if-not-decide.true c.failed-then-not-decide.result c.failed-then-not-decide.ensures
+pub returns-then-decide : goal.returns-then-decide
+returns-then-decide c =
+    let d = decide_gives c.in-Ok.ensures.terms _ _ c.decide.result c.decide.ensures in
+    merged_solves _ _ _ _ _ _ c.in-Ok.ensures (rw c.if-decide.true at d)
 
-pub returns : goal.returns
-returns c =
-    let e = sym c.is_inside.ensures ∙ c.if-is_inside.false in
-    let s = terms_of _ _ _ _ c.merge_shapes-merged.result c.merge_shapes-merged.ensures e in
-    decided_all _ _ _ _ _ _ c.merge_shapes-merged.result c.merge_shapes-merged.ensures e c.decide.result
-    (decide_gives s _ _ c.decide.result c.decide.ensures) c.if-not-decide.false c.decided.result c.decided.ensures
+pub returns-then-decide-2 : goal.returns-then-decide-2
+returns-then-decide-2 c =
+    let m = rw c.in-Err-Here.field-0-is at c.in-Err-Here.ensures in
+    let d = decide_gives m.2.terms _ _ c.decide-in-Err-Here.result c.decide-in-Err-Here.ensures in
+    clash_solves _ _ _ _ _ _ c.in-Err-Here.e m (rw c.if-decide-2.true at d)
+
+pub returns-else-decide : goal.returns-else-decide
+returns-else-decide c =
+    let d = decide_gives c.in-Ok.ensures.terms _ _ c.decide.result c.decide.ensures in
+    merged_fails _ _ _ _ c.decide.new.terms c.decide.new.marks c.in-Ok.ensures (rw c.if-decide.false at d)

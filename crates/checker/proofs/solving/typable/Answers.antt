@@ -15,23 +15,23 @@ pub slice_bounds-satisfiable-end-3 : goal.slice_bounds-satisfiable-end-3
 slice_bounds-satisfiable-end-3 c =
     let p = c.requires in sym (length-take-le _ _ (terms_part p.ready p.k_bound p.work_room c.variable-v.ensures))
 
-pub slice_bounds-satisfiable-end-4 : goal.slice_bounds-satisfiable-end-4
-slice_bounds-satisfiable-end-4 c = let p = c.requires in marks_part p.ready p.k_bound p.work_room c.variable-v.ensures
-
 pub slice_bounds-satisfiable-end-5 : goal.slice_bounds-satisfiable-end-5
-slice_bounds-satisfiable-end-5 c =
+slice_bounds-satisfiable-end-5 c = let p = c.requires in marks_part p.ready p.k_bound p.work_room c.variable-v.ensures
+
+pub slice_bounds-satisfiable-end-6 : goal.slice_bounds-satisfiable-end-6
+slice_bounds-satisfiable-end-6 c =
     let p = c.requires in sym (length-take-le _ _ (marks_part p.ready p.k_bound p.work_room c.variable-v.ensures))
 
 pub satisfiable-requires : goal.satisfiable-requires
 satisfiable-requires c =
     let p = c.requires in (
       part_room p.ready p.k_bound (counted p.ready p.k_bound c.equation_count-m.ensures)
-          (terms_long p.ready p.k_bound p.work_room c.variable-v.ensures) c.args.stack.now p.work_room.stack_room,
+          (terms_long p.ready p.k_bound p.work_room c.variable-v.ensures) c.args.work.now.stack.now p.work_room.stack_room,
       marks_long p.ready p.k_bound p.work_room c.variable-v.ensures,
     )
 
-pub returns : goal.returns
-returns c =
+pub returns-clause-typable : goal.returns-clause-typable
+returns-clause-typable c =
     let p = c.requires in
     typable_is p.ready p.k_bound (counted p.ready p.k_bound c.equation_count-m.ensures)
     (terms_long p.ready p.k_bound p.work_room c.variable-v.ensures) c.satisfiable.result c.satisfiable.ensures
