@@ -3,6 +3,9 @@ pub use Prim.Native.Nat.Ordering.{eq as Ordering·eq}
 pub use Prim.Native.Nat.Ordering.{gt as Ordering·gt}
 pub use Prim.Native.Nat.Ordering.{lt as Ordering·lt}
 pub use Prim.Native.Nat.{Ordering, ◌%◌, ◌*◌, ◌+◌, ◌-◌, ◌/◌, ◌<◌, ◌≤◌, compare, suc, zero, ℕ}
+pub use Rattle.std.specs.declared.cmp.Ordering.{Ordering as RustOrdering}
+pub use Rattle.std.specs.declared.cmp.Ordering.TheVariants.{Less, Equal, Greater}
+pub use Rattle.std.specs.Ordering.{nat_cmp}
 pub use mathlib.Core.Bool.{Bool, cond, false, true}
 pub use mathlib.Core.List.{List, [], ◌++◌, ◌∷◌, append_assoc, append-nil}
 pub use mathlib.Core.Logic.{◌⊎◌, inl, inr}

@@ -1,13 +1,22 @@
 -- The order of two values by their cells. A value is ordered by its own cell and then by what stands behind it: the parts of a pair as a row
 -- of which the first difference decides, the members of a set as one of which the last decides (`own_apart`, `own_same`). Values whose
 -- cells agree are the same.
-use Rattle.arena.proofs.Base.{ℕ, ◌+◌, ◌-◌, ◌/◌, ◌%◌, ◌≤◌, ◌<◌, compare, Ordering, Ordering·eq, Bool, true, false, cond, List, [], ◌∷◌, ◌++◌, ◌≡◌, refl, sym, ap, ◌∙◌, subst, arith, ℕ_discrete, dec_lt, T, eqb, ℤ, pos, get_or, lt-ltb, le-ltb}
-use Rattle.rules.specs.Values.{Value, scalar, pair, set, Values, none, ◌▸◌, scalar_tag, count, weight, compareℤ, ◌then◌, lex, key, keys, order, same}
-use Rattle.laws.proofs.OrderLaws.{then_end, then_first, key_delimited, keys_delimited, compare_refl, compare_eq, lt_compare, gt_compare, same_refl, same_eq}
+use Rattle.arena.proofs.Base.{ℕ, ◌-◌, ◌/◌, ◌%◌, ◌≤◌, ◌<◌, compare, Ordering, Ordering·eq, Bool, true, false, cond, List, [], ◌∷◌, ◌++◌, ◌≡◌, refl, sym, ap, ◌∙◌, subst, arith, ℕ_discrete, dec_lt, T, eqb, ℤ, pos, lt-ltb, le-ltb, nat_cmp}
+use Rattle.rules.specs.Values.{Value, scalar, pair, set, Values, none, ◌▸◌, scalar_tag, count, compareℤ, ◌then◌, lex, key, keys, order, same}
+use Rattle.laws.proofs.OrderLaws.{then_end, then_first, key_delimited, keys_delimited, compare_refl, compare_eq, lt_compare, gt_compare, same_refl}
 use Rattle.laws.proofs.EndLaws.{T_true}
-use Rattle.arena.specs.Code.{cell_size, scalar_low, code, CellsFit, EndsAt, SameAt, row_order}
-use Rattle.arena.proofs.CodeLaws.{unexcess, payload_of, cell_parts, scalar_small, scalar_payload_law, fits_small, length_code, all_agree}
+use Rattle.arena.specs.Code.{cell_size, scalar_low, CellsFit, ordering_of, EndsAt, SameAt, row_order}
+use Rattle.arena.proofs.CodeLaws.{unexcess, payload_of, cell_parts, scalar_small, scalar_payload_law, all_agree}
 use Rattle.arena.proofs.Standing.{own_cell, inner, Agree, cells_agree}
+
+-- The order of two numbers as `cmp` answers it.
+pub cmp_is : (x y : ℕ) → nat_cmp x y ≡ ordering_of (compare x y)
+cmp_is x y = go (dec_lt x y) (dec_lt y x)
+  where
+    go : Dec (x < y) → Dec (y < x) → nat_cmp x y ≡ ordering_of (compare x y)
+    go (yes p) d = rw (lt_compare x y p, lt-ltb x y p)
+    go (no n) (yes p) = rw (gt_compare x y p, le-ltb x y (omega arith))
+    go (no n) (no m) = let e : x ≡ y = omega arith in rw (e, compare_refl y, le-ltb y y (omega arith))
 
 -- Two pairs of numbers in the same relation compare alike.
 compare_same : (a b l m : ℕ) → (a < b → l < m) → (b < a → m < l) → (a ≡ b → l ≡ m) → compare a b ≡ compare l m
@@ -121,23 +130,9 @@ leaf_order v w h k z = go (ℕ_discrete (own_cell v) (own_cell w))
         own_same v w h k e ∙ row_none (is_set v) (inner v) (inner w) z ∙ sym (ap (compare (own_cell v)) (sym e) ∙ compare_refl (own_cell v))
     go (no n) = own_apart v w h k n
 
--- `same`: values whose cells all agree are equal, and a difference tells them apart.
-module _ (s : List ℕ) (a b end i : ℕ) (ends : EndsAt s a end) (g : Agree s a b i) where
-  pub agree_same : end - a ≤ i → SameAt s a b true
-  agree_same l v w h k p q =
-      let x = ends v h p in
-      let e = all_agree v w p q (λ j m o. cells_agree s a b v w h k j m o (g j (omega arith))) in
-      sym ((T_true (same v w)).0 (subst (λ (u : Value). T (same v u)) e (same_refl v)))
-
-  pub differ_same : i < end - a → (get_or s (a + i) 0 ≡ get_or s (b + i) 0 → ⊥) → SameAt s a b false
-  differ_same l d v w h k p q = go (same v w) refl
-    where
-      agree : v ≡ w → get_or s (a + i) 0 ≡ get_or s (b + i) 0
-      agree e =
-          let x = ends v h p in
-          let z : weight v ≡ weight w = ap weight e in
-          h.cells i (omega (arith, length_code v)) ∙ ap (λ (u : Value). get_or (code u) i 0) e ∙ sym (k.cells i (omega (arith, length_code w)))
-
-      go : (r : Bool) → same v w ≡ r → false ≡ r
-      go false e = refl
-      go true e = absurd (d (agree (same_eq v w (fits_small v p) (fits_small w q) ((T_true (same v w)).1 e))))
+-- Values whose cells all agree are the same.
+pub agree_same : (s : List ℕ) (a b end i : ℕ) → EndsAt s a end → Agree s a b i → end - a ≤ i → SameAt s a b true
+agree_same s a b end i ends g l v w h k p q =
+    let x = ends v h p in
+    let e = all_agree v w p q (λ j m o. cells_agree s a b v w h k j m o (g j (omega arith))) in
+    sym ((T_true (same v w)).0 (subst (λ (u : Value). T (same v u)) e (same_refl v)))

@@ -1,13 +1,13 @@
 -- `compare`: the cells of two values agree up to i, none of them that of a set with members; what is left of both are rows of which the first
 -- difference decides (`Undecided`). The next values, x and y, decide where their own cells differ, and are opened where these agree (`pass`).
-use Rattle.arena.proofs.Base.{ℕ, ◌+◌, ◌*◌, ◌-◌, ◌≤◌, ◌<◌, compare, Ordering, Ordering·lt, Ordering·eq, Ordering·gt, false, List, ◌≡◌, refl, sym, ap, ◌∙◌, subst, arith, length, get_or}
+use Rattle.arena.proofs.Base.{ℕ, ◌+◌, ◌*◌, ◌-◌, ◌≤◌, ◌<◌, compare, Ordering, Ordering·eq, false, List, ◌≡◌, refl, sym, ap, ◌∙◌, subst, arith, length, get_or, Equal, nat_cmp}
 use Rattle.rules.specs.Values.{Value, scalar, pair, set, Values, none, ◌▸◌, count, weight, weights, ◌then◌, order}
-use Rattle.laws.proofs.OrderLaws.{then_end, then_first, compare_refl, lt_compare, gt_compare}
+use Rattle.laws.proofs.OrderLaws.{then_end, then_first, compare_refl, compare_eq}
 use Rattle.laws.proofs.CellsLaws.{weight_some}
-use Rattle.arena.specs.Code.{cell_size, ValueAt, CellsFit, order_code, parts_of, row_order, RowAt}
+use Rattle.arena.specs.Code.{cell_size, ValueAt, CellsFit, ordering_of, parts_of, row_order, RowAt}
 use Rattle.arena.proofs.Standing.{own_cell, inner, ◌before◌, weight_inner, weights_before, stands_own, parts_stand, first_stands, row_one, row_open}
 use Rattle.arena.proofs.ValueParts.{some_inside}
-use Rattle.arena.proofs.CellOrder.{own_apart, own_same, is_set}
+use Rattle.arena.proofs.CellOrder.{cmp_is, own_apart, own_same, is_set}
 use Rattle.arena.proofs.RowOrder.{row_some, row_before}
 
 -- Of v and w, whose cells agree up to i, vs and ws are left.
@@ -111,19 +111,15 @@ module _ (s : List ℕ) (a b i : ℕ) (v w : Value) where
     undecided_inside = at_next p l _ (λ n x y vs ws h.
         (some_inside s (a + i) (row_some s (a + i) n x vs h.first), some_inside s (b + i) (row_some s (b + i) n y ws h.second)))
 
-    pub first_less : get_or s (a + i) 0 < get_or s (b + i) 0 → 0 ≡ order_code (order v w)
-    first_less d = at_next p l _ (λ n x y vs ws h.
-        ap order_code (sym (apart h Ordering·lt (λ e. let z : ◌≡◌ {A = ℕ} 0 1 = ap order_code e in omega arith) (lt_compare _ _ d))))
-
-    pub first_greater : get_or s (b + i) 0 < get_or s (a + i) 0 → 2 ≡ order_code (order v w)
-    first_greater d = at_next p l _ (λ n x y vs ws h.
-        ap order_code (sym (apart h Ordering·gt (λ e. let z : ◌≡◌ {A = ℕ} 2 1 = ap order_code e in omega arith) (gt_compare _ _ d))))
+    pub first_apart : (get_or s (a + i) 0 ≡ get_or s (b + i) 0 → ⊥) → nat_cmp (get_or s (a + i) 0) (get_or s (b + i) 0) ≡ ordering_of (order v w)
+    first_apart d = at_next p l _ (λ n x y vs ws h.
+        cmp_is (get_or s (a + i) 0) (get_or s (b + i) 0) ∙ ap ordering_of (sym (apart h _ (λ e. d (compare_eq _ _ e)) refl)))
 
     pub cell_passed : get_or s (a + i) 0 ≡ get_or s (b + i) 0 → get_or s (a + i) 0 ≤ 5 * cell_size → Undecided s a b (i + 1) v w
     cell_passed e d = at_next p l _ (λ n x y vs ws h. pass h e d)
 
-  pub undecided_end : Undecided s a b i v w → weight v ≤ i → 1 ≡ order_code (order v w)
+  pub undecided_end : Undecided s a b i v w → weight v ≤ i → Equal ≡ ordering_of (order v w)
   unfolding row_order
   undecided_end (n, x ▸ vs, ws, h) l = absurd (omega (arith, h.ends, weight_some x))
   undecided_end (n, none, y ▸ ws, h) l = absurd (omega (arith, h.first.counted, h.second.counted))
-  undecided_end (n, none, none, h) l = ap order_code h.decides
+  undecided_end (n, none, none, h) l = ap ordering_of h.decides

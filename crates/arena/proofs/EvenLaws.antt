@@ -1,13 +1,13 @@
 -- Members of one weight. Values of one type, one of them flat, weigh the same; in a row of values that each weigh k, value i stands
 -- k · i cells behind the first (`value_at_law`); a value of one cell compares with another by its cell.
-use Rattle.arena.proofs.Base.{ℕ, zero, suc, ◌+◌, ◌*◌, ◌-◌, ◌≤◌, ◌<◌, compare, List, ◌≡◌, refl, sym, ap, ◌∙◌, subst, arith, T, get_or}
+use Rattle.arena.proofs.Base.{ℕ, zero, suc, ◌+◌, ◌*◌, ◌-◌, ◌≤◌, ◌<◌, compare, List, ◌≡◌, refl, sym, ap, ◌∙◌, subst, arith, T, get_or, Less, Equal, Greater}
 use Rattle.rules.specs.Types.{Ty, atom, POW, ◌⊗◌}
 use Rattle.rules.specs.Values.{Value, scalar, pair, set, Values, none, ◌▸◌, count, weight, weights, order}
 use Rattle.rules.specs.Fits.{HasType, HaveType, typed}
 use Rattle.laws.proofs.OrderLaws.{flip, order_flip, compare_flip, compare_refl, lt_compare, gt_compare}
 use Rattle.laws.proofs.CellsLaws.{count_weights}
 use Rattle.laws.proofs.FitsLaws.{typed_right}
-use Rattle.arena.specs.Code.{ValueAt, CellsFit, order_code, EndsAt, Compared, IsScalar, Flat, AllWeigh, EvenSet, Front}
+use Rattle.arena.specs.Code.{ValueAt, CellsFit, ordering_of, EndsAt, Compared, IsScalar, Flat, AllWeigh, EvenSet, Front}
 use Rattle.arena.proofs.Standing.{inner, weight_inner, stands_own}
 use Rattle.arena.proofs.CellOrder.{leaf_order}
 use Rattle.arena.proofs.FrontLaws.{front_next}
@@ -94,15 +94,15 @@ module _ (s : List ℕ) (a b : ℕ) where
   cell_order v w h k p q one =
       order_flip w v ∙ ap flip (first_cell_order s b a w v k h q p one) ∙ sym (compare_flip (get_or s b 0) (get_or s a 0))
 
-  pub cell_compared : EndsAt s b (b + 1) → Compared s a b (order_code (compare (get_or s a 0) (get_or s b 0)))
-  cell_compared e v w h k p q = ap order_code (sym (cell_order v w h k p q (omega (arith, e w k q))))
+  pub cell_compared : EndsAt s b (b + 1) → Compared s a b (ordering_of (compare (get_or s a 0) (get_or s b 0)))
+  cell_compared e v w h k p q = ap ordering_of (sym (cell_order v w h k p q (omega (arith, e w k q))))
 
-  pub cell_less : EndsAt s b (b + 1) → get_or s a 0 < get_or s b 0 → Compared s a b 0
-  cell_less e l = subst (Compared s a b) (ap order_code (lt_compare (get_or s a 0) (get_or s b 0) l)) (cell_compared e)
+  pub cell_less : EndsAt s b (b + 1) → get_or s a 0 < get_or s b 0 → Compared s a b Less
+  cell_less e l = subst (Compared s a b) (ap ordering_of (lt_compare (get_or s a 0) (get_or s b 0) l)) (cell_compared e)
 
-  pub cell_equal : EndsAt s b (b + 1) → get_or s a 0 ≡ get_or s b 0 → Compared s a b 1
+  pub cell_equal : EndsAt s b (b + 1) → get_or s a 0 ≡ get_or s b 0 → Compared s a b Equal
   cell_equal e q =
-      subst (Compared s a b) (ap (λ (x : ℕ). order_code (compare (get_or s a 0) x)) (sym q) ∙ ap order_code (compare_refl (get_or s a 0))) (cell_compared e)
+      subst (Compared s a b) (ap (λ (x : ℕ). ordering_of (compare (get_or s a 0) x)) (sym q) ∙ ap ordering_of (compare_refl (get_or s a 0))) (cell_compared e)
 
-  pub cell_greater : EndsAt s b (b + 1) → get_or s b 0 < get_or s a 0 → Compared s a b 2
-  cell_greater e l = subst (Compared s a b) (ap order_code (gt_compare (get_or s a 0) (get_or s b 0) l)) (cell_compared e)
+  pub cell_greater : EndsAt s b (b + 1) → get_or s b 0 < get_or s a 0 → Compared s a b Greater
+  cell_greater e l = subst (Compared s a b) (ap ordering_of (gt_compare (get_or s a 0) (get_or s b 0) l)) (cell_compared e)

@@ -1,9 +1,9 @@
 -- Runs of values in the arena: members one behind the other, and the walk over the members of a set.
-use Rattle.arena.proofs.Base.{ℕ, suc, ◌+◌, ◌*◌, ◌-◌, ◌%◌, ◌≤◌, ◌<◌, Ordering, Ordering·lt, Ordering·eq, Ordering·gt, List, [], ◌∷◌, ◌++◌, append_assoc, append-nil, ◌≡◌, refl, sym, ap, ◌∙◌, arith, length, get_or}
+use Rattle.arena.proofs.Base.{ℕ, suc, ◌+◌, ◌*◌, ◌-◌, ◌%◌, ◌≤◌, ◌<◌, Ordering, Ordering·lt, Ordering·eq, Ordering·gt, List, [], ◌∷◌, ◌++◌, append_assoc, append-nil, ◌≡◌, refl, sym, ap, ◌∙◌, arith, length, get_or, RustOrdering, Less, Equal, Greater}
 use Rattle.rules.specs.Values.{Value, set, Values, none, ◌▸◌, members, values, count, weight, weights}
 use Rattle.laws.proofs.OrderLaws.{Small}
 use Rattle.laws.proofs.SetOrder.{All, Rising, rising_cons}
-use Rattle.arena.specs.Code.{cell_size, code, codes, ValueAt, Same, AllFit, order_code, SomeAt, EndsAt, Rises, SetBelow, ValueBelow, Front}
+use Rattle.arena.specs.Code.{cell_size, code, codes, ValueAt, Same, AllFit, ordering_of, SomeAt, EndsAt, Rises, SetBelow, ValueBelow, Front}
 use Rattle.arena.proofs.CodeLaws.{length_code, length_codes, fits_small}
 use Rattle.arena.proofs.Standing.{stands_head, stands_tail, first_stands, rest_stand, stands_frame}
 
@@ -112,18 +112,18 @@ value_some s top e v h = record { value = v; stands = h.stands; fits = h.fits }
 pub value_end : (s : List ℕ) (top a e : ℕ) (v : Value) → ValueBelow s top a v → EndsAt s a e → e ≡ a + weight v
 value_end s top a e v h x = x v h.stands h.fits
 
--- The order that a number from 0 to 2 stands for.
-pub code_less : (o : Ordering) (c : ℕ) → c ≡ order_code o → c ≡ 0 → o ≡ Ordering·lt
-code_less Ordering·lt c e z = refl
-code_less Ordering·eq c e z = absurd (omega arith)
-code_less Ordering·gt c e z = absurd (omega arith)
+-- The order that a function's answer stands for.
+pub ordering_less : (o : Ordering) (c : RustOrdering) → c ≡ ordering_of o → c ≡ Less → o ≡ Ordering·lt
+ordering_less Ordering·lt c e z = refl
+ordering_less Ordering·eq c e z = cc
+ordering_less Ordering·gt c e z = cc
 
-pub code_equal : (o : Ordering) (c : ℕ) → c ≡ order_code o → c ≡ 1 → o ≡ Ordering·eq
-code_equal Ordering·lt c e z = absurd (omega arith)
-code_equal Ordering·eq c e z = refl
-code_equal Ordering·gt c e z = absurd (omega arith)
+pub ordering_equal : (o : Ordering) (c : RustOrdering) → c ≡ ordering_of o → c ≡ Equal → o ≡ Ordering·eq
+ordering_equal Ordering·lt c e z = cc
+ordering_equal Ordering·eq c e z = refl
+ordering_equal Ordering·gt c e z = cc
 
-pub code_greater : (o : Ordering) (c : ℕ) → c ≡ order_code o → (c ≡ 1 → ⊥) → (c ≡ 0 → ⊥) → o ≡ Ordering·gt
-code_greater Ordering·lt c e p q = absurd (q e)
-code_greater Ordering·eq c e p q = absurd (p e)
-code_greater Ordering·gt c e p q = refl
+pub ordering_greater : (o : Ordering) (c : RustOrdering) → c ≡ ordering_of o → c ≡ Greater → o ≡ Ordering·gt
+ordering_greater Ordering·lt c e z = cc
+ordering_greater Ordering·eq c e z = cc
+ordering_greater Ordering·gt c e z = refl

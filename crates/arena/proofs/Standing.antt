@@ -1,9 +1,11 @@
 -- Values that stand in the arena: their cells one by one, where they end, how far two agree, and what copying keeps.
-use Rattle.arena.proofs.Base.{ℕ, suc, ◌+◌, ◌*◌, ◌-◌, ◌/◌, ◌%◌, ◌≤◌, ◌<◌, List, ◌∷◌, ◌++◌, append_assoc, append-nil, ◌⊎◌, inl, inr, ◌≡◌, refl, sym, ap, ◌∙◌, arith, add-zero, ℕ_discrete, dec_lt, length, get_or, set_at, length-append, length-set, list·get_d_append, get_or-append-add, get_or-set_same, get_or-set_other, eq-eqb, ne_eqb}
+use Rattle.arena.proofs.Base.{ℕ, suc, ◌+◌, ◌*◌, ◌-◌, ◌/◌, ◌%◌, ◌≤◌, ◌<◌, List, ◌∷◌, ◌++◌, append_assoc, append-nil, ◌≡◌, refl, sym, ap, ◌∙◌, arith, add-zero, dec_lt, ℕ_discrete, length, get_or, length-append, list·get_d_append, get_or-append-add, eq-eqb, ne_eqb}
 use Rattle.rules.specs.Values.{Value, scalar, pair, set, Values, none, ◌▸◌, scalar_tag, count, weight, weights}
-use Rattle.arena.specs.Code.{cell_size, scalar_low, code, codes, Stands, ValueAt, ValuesAt, Same, CellsFit, AllFit, SomeAt, EndsAt, Copied, parts_of, RowAt}
-use Rattle.arena.proofs.CodeLaws.{length_code, length_codes, scalar_small, all_agree}
+use Rattle.arena.specs.Code.{cell_size, scalar_low, code, codes, Stands, ValueAt, ValuesAt, Same, CellsFit, AllFit, EndsAt, Copied, parts_of, RowAt}
+use Rattle.arena.proofs.CodeLaws.{length_code, length_codes, scalar_small}
 use Rattle.laws.proofs.CellsLaws.{count_weights}
+use Rattle.prefix.specs.Forms.{Forms}
+use Rattle.std.proofs.Common.{zero, drop, drop-cons, add-one, subst}
 
 -- The first cell of a run, and the rest of it.
 pub stands_head : (s : List ℕ) (at x : ℕ) (xs : List ℕ) → Stands s at (x ∷ xs) → get_or s at 0 ≡ x
@@ -182,6 +184,24 @@ module _ (s : List ℕ) (i left e : ℕ) (p : Pending s i left e) where
   pub pending_few : left ≤ length s
   pending_few = omega (arith, row_inside s i left p.values p.row)
 
+-- Values that stand from i to e are forms in prefix order, as a step P sees them that answers how many parts follow a cell.
+module _ (P : ℕ → ℕ → Type 0) (tells : (x r : ℕ) → P x r → r ≡ parts_of x) (s : List ℕ) where
+  pending_forms : (n i left e : ℕ) → Pending s i left e → i + n ≡ e → Forms P n (drop i s) left
+  unfolding Forms
+  pending_forms zero i left e p z = omega (arith, p.row.counted, p.ends, count_weights p.values)
+  pending_forms (suc n) i left e p z =
+      let some : 0 < left = elim (ℕ_discrete left 0) [ yes q ↦ absurd (omega (arith, pending_end s i left e p q)) | no q ↦ omega arith ] in
+      let d : get_or s i 0 ∷ drop (i + 1) s ≡ drop i s =
+      ap (λ j. get_or s i 0 ∷ drop j s) (add-one i) ∙ sym (drop-cons s i 0 (pending_inside s i left e p some)) in
+      subst (λ (xs : List ℕ). Forms P (suc n) xs left) d (
+        some,
+        omega (arith, p.row.counted, p.ends, count_weights p.values),
+        λ r h. rw (tells _ r h) (pending_forms n (i + 1) _ e (pending_step s i left e p some) (omega arith)),
+      )
+
+  pub value_forms : (at : ℕ) (v : Value) → ValueAt s at v → CellsFit v → Forms P (weight v) (drop at s) 1
+  value_forms at v h f = pending_forms (weight v) at 1 (at + weight v) (pending_start s at v h f) refl
+
 -- Comparing two runs: the cells agree so far.
 abbrev pub Agree : List ℕ → ℕ → ℕ → ℕ → Type 0
 Agree s a b i = (j : ℕ) → j < i → get_or s (a + j) 0 ≡ get_or s (b + j) 0
@@ -189,66 +209,6 @@ Agree s a b i = (j : ℕ) → j < i → get_or s (a + j) 0 ≡ get_or s (b + j) 
 pub cells_agree : (s : List ℕ) (a b : ℕ) (v w : Value) → ValueAt s a v → ValueAt s b w → (j : ℕ) → j < weight v → j < weight w →
     get_or s (a + j) 0 ≡ get_or s (b + j) 0 → get_or (code v) j 0 ≡ get_or (code w) j 0
 cells_agree s a b v w h k j l m e = sym (h.cells j (omega (arith, length_code v))) ∙ e ∙ k.cells j (omega (arith, length_code w))
-
--- while the cells agree, the second value has not ended before the first
-pub in_second : (s : List ℕ) (a b i : ℕ) (v w : Value) → ValueAt s a v → ValueAt s b w → CellsFit v → CellsFit w → i < weight v → Agree s a b i → i < weight w
-in_second s a b i v w h k p q l g = go (dec_lt i (weight w))
-  where
-    go : Dec (i < weight w) → i < weight w
-    go (yes y) = y
-    go (no n) =
-        let f = ap weight (all_agree v w p q (λ j m o. cells_agree s a b v w h k j m o (g j (omega arith)))) in
-        omega arith
-
-pub second_inside : (s : List ℕ) (a b end i : ℕ) → SomeAt s a → SomeAt s b → EndsAt s a end → i < end - a → Agree s a b i → b + i < length s
-second_inside s a b end i p q e l g =
-    let x = e p.value p.stands p.fits in
-    let y = in_second s a b i p.value q.value p.stands q.stands p.fits q.fits (omega arith) g in
-    omega (arith, q.stands.inside, length_code q.value)
-
-pub first_inside : (s : List ℕ) (a end i : ℕ) → SomeAt s a → EndsAt s a end → i < end - a → a + i < length s
-first_inside s a end i p e l =
-    let x = e p.value p.stands p.fits in
-    omega (arith, p.stands.inside, length_code p.value)
-
-pub end_above : (s : List ℕ) (a end : ℕ) → SomeAt s a → EndsAt s a end → a ≤ end
-end_above s a end p e = omega (arith, e p.value p.stands p.fits)
-
-pub agree_next : (s : List ℕ) (a b i : ℕ) → Agree s a b i → get_or s (b + i) 0 ≤ get_or s (a + i) 0 → get_or s (a + i) 0 ≤ get_or s (b + i) 0 →
-    Agree s a b (i + 1)
-agree_next s a b i g p q j l = go (ℕ_discrete j i)
-  where
-    go : Dec (j ≡ i) → get_or s (a + j) 0 ≡ get_or s (b + j) 0
-    go (yes f) = rw f (omega arith)
-    go (no n) = g j (omega arith)
-
--- Copying, cell by cell.
-pub copied_start : (s : List ℕ) (from to : ℕ) → Copied s from 0 to s
-copied_start s from to = record { there = λ i p. absurd (omega arith); before = λ i p. refl; after = λ i p. refl; kept = refl }
-
-pub copied_source : (s₀ s : List ℕ) (from n to i : ℕ) → Copied s₀ from i to s → ((from + n ≤ to) ⊎ (to ≤ from)) → i < n →
-    get_or s (from + i) 0 ≡ get_or s₀ (from + i) 0
-copied_source s₀ s from n to i c (inl h) l = c.before (from + i) (omega arith)
-copied_source s₀ s from n to i c (inr h) l = c.after (from + i) (omega arith)
-
-pub copied_step : (s₀ s : List ℕ) (from n to i : ℕ) → Copied s₀ from i to s → ((from + n ≤ to) ⊎ (to ≤ from)) → i < n → to + n ≤ length s₀ →
-    Copied s₀ from (i + 1) to (set_at s (to + i) (get_or s (from + i) 0))
-copied_step s₀ s from n to i c d l b = record {
-  there = λ j p. at j p (ℕ_discrete j i);
-  before = λ j p. get_or-set_other s (to + i) j x 0 (λ e. omega arith) ∙ c.before j p;
-  after = λ j p. get_or-set_other s (to + i) j x 0 (λ e. omega arith) ∙ c.after j (omega arith);
-  kept = length-set s (to + i) x ∙ c.kept;
-}
-  where
-    x : ℕ
-    x = get_or s (from + i) 0
-
-    at : (j : ℕ) → j < i + 1 → Dec (j ≡ i) → get_or (set_at s (to + i) (get_or s (from + i) 0)) (to + j) 0 ≡ get_or s₀ (from + j) 0
-    at j p (yes e) = rw e (get_or-set_same s (to + i) (get_or s (from + i) 0) 0 (omega (arith, c.kept)) ∙ copied_source s₀ s from n to i c d l)
-    at j p (no e) = get_or-set_other s (to + i) (to + j) (get_or s (from + i) 0) 0 (λ f. e (omega arith)) ∙ c.there j (omega arith)
-
-pub copied_end : (s₀ s : List ℕ) (from n to i : ℕ) → Copied s₀ from i to s → i ≡ n → Copied s₀ from n to s
-copied_end s₀ s from n to i c e = rw (sym e) c
 
 -- What stands below a frame stays, and frames compose.
 pub stands_frame : (k : ℕ) (s s' : List ℕ) (at : ℕ) (xs : List ℕ) → Same k s s' → at + length xs ≤ k → Stands s at xs → Stands s' at xs

@@ -1,7 +1,9 @@
 -- Values as runs of cells in the arena. A cell is its tag times 2^32 and its payload, numbers in excess form, so that the
 -- order of cells as numbers is the order of document 01 by tag and then payload.
 use Prim.Native.Nat.{ℕ, ◌+◌, ◌*◌, ◌-◌, ◌/◌, ◌%◌, ◌≤◌, ◌<◌, Ordering}
-use Rattle.std.specs.Prelude.{Bool, true, false, cond, List, [], ◌∷◌, ◌++◌, ◌≡◌, T, eqb, ℤ, pos, negsuc, length, get_or}
+use Rattle.std.specs.Prelude.{Bool, true, false, cond, List, [], ◌∷◌, ◌++◌, Option, Some, None, ◌≡◌, T, eqb, ℤ, pos, negsuc, length, get_or}
+use Rattle.std.specs.declared.cmp.Ordering.{Ordering as RustOrdering}
+use Rattle.std.specs.declared.cmp.Ordering.TheVariants.{Less, Equal, Greater}
 use Rattle.std.specs.Int.Signed.{mag}
 use Rattle.rules.specs.Cells.{precedes}
 use Rattle.rules.specs.Values.{Scalar, num, truth, element, Value, scalar, pair, set, Values, none, ◌▸◌, scalar_tag, bit, count, weight, weights, order}
@@ -68,11 +70,11 @@ abbrev mutual
   AllFit none = Unit {0}
   AllFit (v ▸ vs) = CellsFit v × AllFit vs
 
--- The order of two values as a number: 0 less, 1 equal, 2 greater.
-abbrev pub order_code : Ordering → ℕ
-order_code Ordering.lt = 0
-order_code Ordering.eq = 1
-order_code Ordering.gt = 2
+-- The order of two values as the functions answer it.
+abbrev pub ordering_of : Ordering → RustOrdering
+ordering_of Ordering.lt = Less
+ordering_of Ordering.eq = Equal
+ordering_of Ordering.gt = Greater
 
 -- Some value that fits stands at `at`.
 pub record SomeAt (s : List ℕ) (at : ℕ) : Type 0 where
@@ -85,8 +87,8 @@ abbrev pub EndsAt : List ℕ → ℕ → ℕ → Type 0
 EndsAt s at r = (v : Value) → ValueAt s at v → CellsFit v → r ≡ at + weight v
 
 -- r is the order of the values at a and b.
-abbrev pub Compared : List ℕ → ℕ → ℕ → ℕ → Type 0
-Compared s a b r = (v w : Value) → ValueAt s a v → ValueAt s b w → CellsFit v → CellsFit w → r ≡ order_code (order v w)
+abbrev pub Compared : List ℕ → ℕ → ℕ → RustOrdering → Type 0
+Compared s a b r = (v w : Value) → ValueAt s a v → ValueAt s b w → CellsFit v → CellsFit w → r ≡ ordering_of (order v w)
 
 -- r says whether they are the same.
 abbrev pub SameAt : List ℕ → ℕ → ℕ → Bool → Type 0
@@ -97,9 +99,9 @@ abbrev pub then_next : Bool → Ordering → Ordering → Ordering
 then_next false o p = o then p
 then_next true o p = p then o
 
--- So as numbers.
-abbrev pub ThenNext : Bool → ℕ → ℕ → ℕ → Type 0
-ThenNext last m n r = (o p : Ordering) → m ≡ order_code o → n ≡ order_code p → r ≡ order_code (then_next last o p)
+-- So as the functions answer orders.
+abbrev pub ThenNext : Bool → RustOrdering → RustOrdering → RustOrdering → Type 0
+ThenNext last m n r = (o p : Ordering) → m ≡ ordering_of o → n ≡ ordering_of p → r ≡ ordering_of (then_next last o p)
 
 -- The order of two rows of as many values, from left to right: that of the first that differ, or (last) of the last.
 unfoldable pub row_order : Bool → Values → Values → Ordering
@@ -118,16 +120,16 @@ SomeRow s at n = (vs : Values) × RowAt s at n vs
 
 -- Of two rows that are compared from left to right, vs from i on and ws from j on are left, up to e and f; m is the order of those that have
 -- been passed, and with the order of those that are left it gives that of the whole.
-pub record RowsLeft (s : List ℕ) (i j n : ℕ) (last : Bool) (m : ℕ) (whole : Ordering) (e f : ℕ) (vs ws : Values) : Type 0 where
+pub record RowsLeft (s : List ℕ) (i j n : ℕ) (last : Bool) (m : RustOrdering) (whole : Ordering) (e f : ℕ) (vs ws : Values) : Type 0 where
   pub passed : Ordering
-  pub known : m ≡ order_code passed
+  pub known : m ≡ ordering_of passed
   pub first : RowAt s i n vs
   pub second : RowAt s j n ws
   pub first_end : i + weights vs ≡ e
   pub second_end : j + weights ws ≡ f
   pub decides : then_next last passed (row_order last vs ws) ≡ whole
 
-abbrev pub SomeLeft : List ℕ → ℕ → ℕ → ℕ → Bool → ℕ → Ordering → ℕ → ℕ → Type 0
+abbrev pub SomeLeft : List ℕ → ℕ → ℕ → ℕ → Bool → RustOrdering → Ordering → ℕ → ℕ → Type 0
 SomeLeft s i j n last m whole e f = (vs : Values) × (ws : Values) × RowsLeft s i j n last m whole e f vs ws
 
 -- n values from a on and n from b on have been compared as far as r says.
@@ -139,7 +141,7 @@ pub record RowsBegun (s : List ℕ) (a b n : ℕ) (last : Bool) (r : Rows) : Typ
 
 -- r has the order o, and where m cells from a on and n from b on end.
 pub record OrderAndEnds (a b : ℕ) (o : Ordering) (m n : ℕ) (r : Rows) : Type 0 where
-  pub order : r.order ≡ order_code o
+  pub order : r.order ≡ ordering_of o
   pub first : r.a ≡ a + m
   pub second : r.b ≡ b + n
 
@@ -159,6 +161,19 @@ pub record Copied (s : List ℕ) (from n to : ℕ) (s' : List ℕ) : Type 0 wher
   pub before : (i : ℕ) → i < to → get_or s' i 0 ≡ get_or s i 0
   pub after : (i : ℕ) → to + n ≤ i → get_or s' i 0 ≡ get_or s i 0
   pub kept : length s' ≡ length s
+
+-- A run from `from` to `end`, and room for it from `to` on.
+pub record CopyIfReady (s : List ℕ) (from end to : ℕ) : Type 0 where
+  pub forward : from ≤ end
+  pub inside : end ≤ length s
+  pub room : to + (end - from) ≤ length s
+
+-- The run from `from` to `end` has been copied to `to`, if it is kept, and ends at r; below `to` nothing is changed.
+pub record CopiedIf (s : List ℕ) (from end : ℕ) (keep : Bool) (to : ℕ) (s' : List ℕ) (r : ℕ) : Type 0 where
+  pub frame : Same to s s'
+  pub kept : keep ≡ true → Copied s from (end - from) to s'
+  pub left : keep ≡ false → s' ≡ s
+  pub ends : r ≡ to + cond keep (end - from) 0
 
 -- How many values follow a cell as its parts or members, by its tag.
 abbrev pub parts_of : ℕ → ℕ
@@ -219,12 +234,12 @@ pub record ValueBelow (s : List ℕ) (top at : ℕ) (v : Value) : Type 0 where
 abbrev pub SomeValue : List ℕ → ℕ → ℕ → Type 0
 SomeValue s top at = (v : Value) × ValueBelow s top at v
 
--- An operation that gives v has built it at `top` and answers where it ends, or 0 where v weighs over 256 (18);
+-- An operation that gives v has built it at `top` and answers where it ends, or None where v weighs over 256;
 -- below `top` nothing is changed.
-pub record Made (top : ℕ) (s s' : List ℕ) (v : Value) (r : ℕ) : Type 0 where
+pub record Made (top : ℕ) (s s' : List ℕ) (v : Value) (r : Option ℕ) : Type 0 where
   pub frame : Same top s s'
-  pub light : weight v ≤ 256 → (r ≡ top + weight v) × ValueAt s' top v
-  pub heavy : 256 < weight v → r ≡ 0
+  pub light : weight v ≤ 256 → (r ≡ Some (top + weight v)) × ValueAt s' top v
+  pub heavy : 256 < weight v → r ≡ None
 
 -- n members of a set, rising, those that are left of it, stand from `at` on, below `top`.
 pub record Front (s : List ℕ) (top at n : ℕ) (vs : Values) : Type 0 where

@@ -1,14 +1,17 @@
-// Values as runs of cells in an arena: where a value ends, the order of two values, copying.
+// Values as runs of cells in an arena: where a value ends, the order of two values, copying. Places are numbers (project rule: no heap, fixed
+// memory), so no type of value could derive Eq, Ord or Clone: `same`, `compare` and `copy` stand for these. The arena and places in it are
+// parameters of their own, here and in the crates above: half of the functions write it, so a struct of them would be made anew for each call.
 #![tactic(auto)]
 
-ghost use Rattle.std.specs.Prelude.{◌≡◌, ◌⊎◌, ℕ, ◌+◌, ◌*◌, ◌-◌, ◌<◌, ◌≤◌, ◌/◌, ◌%◌, length, get_or, set};
-ghost use Prim.Native.Nat.{compare as compared};
-ghost use Rattle.arena.specs.Code.{SomeAt, EndsAt, Compared, SameAt, Copied, parts_of, order_code, ThenNext, SomeRow, ValuesCompared, RowsBegun, RowsCompared};
+ghost use Rattle.std.specs.Prelude.{◌≡◌, ◌⊎◌, ◌+◌, ◌<◌, ◌≤◌, ◌/◌, ◌%◌, length, get_or};
+ghost use Rattle.arena.specs.Code.{SomeAt, EndsAt, Compared, SameAt, Copied, CopyIfReady, CopiedIf, parts_of, ThenNext, SomeRow, ValuesCompared, RowsBegun, RowsCompared};
+
+use std::cmp::Ordering;
 
 // A cell is its tag times CELL, and its payload.
 pub const CELL: u64 = 4294967296;
 
-// The tags.
+// The tags. They stay numbers: a cell is one u64, ordered as a number.
 pub const NUMBER_TAG: u64 = 1;
 
 pub const TRUTH_TAG: u64 = 2;
@@ -18,13 +21,6 @@ pub const ELEMENT_TAG: u64 = 3;
 pub const PAIR_TAG: u64 = 4;
 
 pub const SET_TAG: u64 = 5;
-
-// The orders of two values.
-pub const LESS: u8 = 0;
-
-pub const EQUAL: u8 = 1;
-
-pub const GREATER: u8 = 2;
 
 // The cells of scalars: numbers in excess form (ZERO is that of 0), truths, elements. Payloads are added.
 pub const NUMBER: u64 = NUMBER_TAG * CELL;
@@ -66,29 +62,11 @@ pub fn low(cell: u64) -> u64
 pub fn parts(cell: u64) -> usize
     ensures { (result ≡ parts_of cell) × (result < 4294967296) }
 {
-    let t = tag(cell);
-    if t == PAIR_TAG {
-        return 2;
+    match tag(cell) {
+        PAIR_TAG => 2,
+        SET_TAG => low(cell) as usize,
+        _ => 0,
     }
-    if t == SET_TAG {
-        return low(cell) as usize;
-    }
-    0
-}
-
-// Where the value that begins at `at` ends, cell by cell.
-fn walk_end(s: &[u64], at: usize) -> usize
-    requires { SomeAt s.now at }
-    ensures { EndsAt s.now at result }
-{
-    let mut i = at;
-    let mut left: usize = 1;
-    while left > 0 {
-        let p = parts(s[i]);
-        left = left - 1 + p;
-        i += 1;
-    }
-    i
 }
 
 // Where the value that begins at `at` ends.
@@ -99,7 +77,7 @@ pub fn end_of(s: &[u64], at: usize) -> usize
     if s[at] < PAIR {
         return at + 1;
     }
-    walk_end(s, at)
+    prefix::form_end(s, at, parts)
 }
 
 // Whether the values at a and b are the same. The first ends at `end`.
@@ -107,52 +85,25 @@ pub fn same(s: &[u64], a: usize, end: usize, b: usize) -> bool
     requires { SomeAt s.now a × SomeAt s.now b × EndsAt s.now a end }
     ensures { SameAt s.now a b result }
 {
-    let n = end - a;
-    let mut i: usize = 0;
-    while i < n {
-        if s[a + i] != s[b + i] {
-            return false;
-        }
-        i += 1;
-    }
-    true
+    s[b..].starts_with(&s[a..end])
 }
 
 // Two rows of values that have been compared: their order, and where they end.
 #[derive(Drop)]
 pub struct Rows {
-    pub order: u8,
+    pub order: Ordering,
     pub a: usize,
     pub b: usize,
 }
 
-// The order o of some values and then p of the next: the first that is a difference decides, or (if last) the last.
-fn then_next(last: bool, o: u8, p: u8) -> u8
-    ensures { ThenNext last o p result }
+// The order of some values and then that of the next: the first that is a difference decides, or (if last) the last.
+fn then_next(last: bool, passed: Ordering, next: Ordering) -> Ordering
+    ensures { ThenNext last passed next result }
 {
-    if p == EQUAL {
-        return o;
-    }
     if last {
-        return p;
+        return next.then(passed);
     }
-    if o == EQUAL {
-        return p;
-    }
-    o
-}
-
-// The order of two cells.
-fn cell_order(x: u64, y: u64) -> u8
-    ensures { result ≡ order_code (compared x y) }
-{
-    if x < y {
-        return LESS;
-    }
-    if y < x {
-        return GREATER;
-    }
-    EQUAL
+    passed.then(next)
 }
 
 // Two values whose own cells differ: these decide.
@@ -160,13 +111,10 @@ fn apart(s: &[u64], a: usize, b: usize) -> Rows
     requires { SomeAt s.now a × SomeAt s.now b × (get_or s.now a 0 ≡ get_or s.now b 0 → ⊥) }
     ensures { ValuesCompared s.now a b result }
 {
-    let order = cell_order(s[a], s[b]);
-    let end = end_of(s, a);
-    let other = end_of(s, b);
     Rows {
-        order: order,
-        a: end,
-        b: other,
+        order: s[a].cmp(&s[b]),
+        a: end_of(s, a),
+        b: end_of(s, b),
     }
 }
 
@@ -188,24 +136,23 @@ fn compare_cells(s: &[u64], a: usize, b: usize, n: usize, last: bool) -> Rows
     requires { SomeRow s.now a n × SomeRow s.now b n }
     ensures { RowsBegun s.now a b n last result }
 {
-    let mut i: usize = 0;
-    let mut order = EQUAL;
-    while i < n {
+    let mut order = Ordering::Equal;
+    for i in 0..n {
         let x = s[a + i];
         let y = s[b + i];
-        if x >= PAIR {
-            break;
+        if x >= PAIR || y >= PAIR {
+            return Rows {
+                order,
+                a: a + i,
+                b: b + i,
+            };
         }
-        if y >= PAIR {
-            break;
-        }
-        order = then_next(last, order, cell_order(x, y));
-        i += 1;
+        order = then_next(last, order, x.cmp(&y));
     }
     Rows {
-        order: order,
-        a: a + i,
-        b: b + i,
+        order,
+        a: a + n,
+        b: b + n,
     }
 }
 
@@ -215,67 +162,68 @@ fn compare_rows(s: &[u64], a: usize, b: usize, n: usize, last: bool) -> Rows
     requires { SomeRow s.now a n × SomeRow s.now b n }
     ensures { RowsCompared s.now a b n last result }
 {
-    let begun = compare_cells(s, a, b, n, last);
-    let mut order = begun.order;
-    let mut i = begun.a;
-    let mut j = begun.b;
-    let mut left = n - (i - a);
-    while left > 0 {
-        let r = compare_values(s, i, j);
-        order = then_next(last, order, r.order);
-        i = r.a;
-        j = r.b;
-        left -= 1;
+    let mut rows = compare_cells(s, a, b, n, last);
+    for _ in rows.a - a..n {
+        let next = compare_values(s, rows.a, rows.b);
+        rows = Rows {
+            order: then_next(last, rows.order, next.order),
+            a: next.a,
+            b: next.b,
+        };
     }
-    Rows {
-        order: order,
-        a: i,
-        b: j,
-    }
+    rows
 }
 
-// The order of the value at a to that at b, whatever they hold.
-fn compare_whole(s: &[u64], a: usize, b: usize) -> u8
-    requires { SomeAt s.now a × SomeAt s.now b }
-    ensures { Compared s.now a b result }
-{
-    let r = compare_values(s, a, b);
-    r.order
-}
-
-// The same, where the first ends at `end`. As long as no set with members stands in both, the first cells that differ decide.
-pub fn compare(s: &[u64], a: usize, end: usize, b: usize) -> u8
+// The order of the value at a, which ends at `end`, to that at b. As long as no set with members stands in both, the first cells that differ decide.
+pub fn compare(s: &[u64], a: usize, end: usize, b: usize) -> Ordering
     requires { SomeAt s.now a × SomeAt s.now b × EndsAt s.now a end }
     ensures { Compared s.now a b result }
 {
-    let n = end - a;
-    let mut i: usize = 0;
-    while i < n {
+    for i in 0..end - a {
         let x = s[a + i];
         let y = s[b + i];
-        if x < y {
-            return LESS;
-        }
-        if y < x {
-            return GREATER;
+        if x != y {
+            return x.cmp(&y);
         }
         if x > SET {
-            return compare_whole(s, a, b);
+            return compare_values(s, a, b).order;
         }
-        i += 1;
     }
-    EQUAL
+    Ordering::Equal
 }
 
-// Copies n cells, upward to a place behind them or downward.
-pub fn copy(s: &mut [u64], from: usize, n: usize, to: usize)
+// Copies n cells, the first one first: upward to a place behind them, or downward.
+fn copy_forward(s: &mut [u64], from: usize, n: usize, to: usize)
     requires { (from + n ≤ length s.old) × (to + n ≤ length s.old) × ((from + n ≤ to) ⊎ (to ≤ from)) }
     ensures { Copied s.old from n to s.new }
 {
-    let mut i: usize = 0;
-    while i < n {
-        let x = s[from + i];
-        s[to + i] = x;
-        i += 1;
+    for i in 0..n {
+        s[to + i] = s[from + i];
     }
+}
+
+// Copies n cells. The places may overlap. Runs are short, and most are built behind what they are copied from: std's `copy_within` goes upward from
+// the last cell down, with which power sets and products took a fifth more instructions.
+pub fn copy(s: &mut [u64], from: usize, n: usize, to: usize)
+    requires { (from + n ≤ length s.old) × (to + n ≤ length s.old) }
+    ensures { Copied s.old from n to s.new }
+{
+    if to <= from || from + n <= to {
+        copy_forward(s, from, n, to);
+    } else {
+        s.copy_within(from..from + n, to);
+    }
+}
+
+// Copies the run from `from` to `end` to `to`, if it is kept, and answers where what has been built ends.
+pub fn copy_if(s: &mut [u64], from: usize, end: usize, keep: bool, to: usize) -> usize
+    requires { CopyIfReady s.old from end to }
+    ensures { CopiedIf s.old from end keep to s.new result }
+{
+    if !keep {
+        return to;
+    }
+    let n = end - from;
+    copy(s, from, n, to);
+    to + n
 }

@@ -6,15 +6,19 @@ use mathlib.Core.List.{List}
 use mathlib.Core.Logic.{◌↔◌}
 use mathlib.Core.Path.{◌≡◌, refl, sym, ap, subst, ◌∙◌}
 use native.Mathlib.Omega.{arith}
-use lib.Dec.{T, eqb}
+use lib.Dec.{T}
+use Rattle.std.specs.declared.cmp.Ordering.{Ordering as RustOrdering}
+use Rattle.std.specs.declared.cmp.Ordering.TheVariants.{Less, Equal, Greater}
+use Rattle.std.specs.Ordering.{is_ge, is_lt as is_less}
 use lib.ListN.{length}
 use Rattle.rules.specs.Types.{Ty}
 use Rattle.rules.specs.Values.{Value, Values, none, ◌▸◌, count, weights, order, is_lt, before as is_before}
 use Rattle.rules.specs.Fits.{TypeSet, every, ◌⊓◌, types_of, shared_types}
 use Rattle.rules.proofs.Basics.{and_split}
+use Rattle.laws.proofs.CellsLaws.{count_weights}
 use Rattle.laws.proofs.EndLaws.{T_true, T_false}
 use Rattle.laws.proofs.FitsLaws.{◌⊑◌, ⊓_join, ⊓_split, inhabited→some, some→inhabited}
-use Rattle.arena.specs.Code.{codes, Stands, EndsAt, Compared, order_code}
+use Rattle.arena.specs.Code.{codes, Stands, EndsAt, Compared, ordering_of}
 use Rattle.arena.proofs.CodeLaws.{length_codes}
 use Rattle.arena.proofs.Standing.{stands_append, first_stands, rest_stand, ◌before◌, codes_before, count_before, weights_before, fit_before}
 use Rattle.fitting.specs.Agree.{meets, agree, TypedAt, RunAt, SomeTyped, AgreedWith, NoEmpty, Full, StandFor, Agreed}
@@ -51,10 +55,20 @@ first_of {s} {i} (w ▸ ws) r l =
 pub some_first : {s : List ℕ} {at n : ℕ} → SomeTypedRow s at n → 0 < n → SomeTyped s at
 some_first r l = let x = first_of r.0 r.1 l in (x.value, x.here)
 
-less_code : (o : Ordering) → is_lt o ≡ eqb (order_code o) 0
+less_code : (o : Ordering) → is_lt o ≡ is_less (ordering_of o)
 less_code Ordering.lt = refl
 less_code Ordering.eq = refl
 less_code Ordering.gt = refl
+
+pub not_less : (c : RustOrdering) → is_ge c ≡ true → is_less c ≡ false
+not_less Less e = cc
+not_less Equal e = refl
+not_less Greater e = refl
+
+pub is_less_is : (c : RustOrdering) → is_ge c ≡ false → is_less c ≡ true
+is_less_is Less e = refl
+is_less_is Equal e = cc
+is_less_is Greater e = cc
 
 -- The value at a has one type only.
 abbrev pub FullAt : List ℕ → ℕ → Type 0
@@ -67,9 +81,9 @@ full_at {s} {at} e n v h = full_value v s at h.stands (rw (end_is e h) at n)
 abbrev pub IsBefore : List ℕ → ℕ → ℕ → Bool → Type 0
 IsBefore s a b r = (v w : Value) → TypedAt s a v → TypedAt s b w → is_before v w ≡ r
 
-pub compared_before : {s : List ℕ} {a b c : ℕ} → Compared s a b c → IsBefore s a b (eqb c 0)
+pub compared_before : {s : List ℕ} {a b : ℕ} {c : RustOrdering} → Compared s a b c → IsBefore s a b (is_less c)
 unfolding is_before
-compared_before f v w h k = less_code (order v w) ∙ ap (λ (c : ℕ). eqb c 0) (sym (f v w h.stands k.stands h.fits k.fits))
+compared_before f v w h k = less_code (order v w) ∙ ap is_less (sym (f v w h.stands k.stands h.fits k.fits))
 
 -- Types of values that follow one another.
 both_types : (p q : TypeSet) (t : Ty) → (p ⊓ q ⊑ t) ↔ (p ⊑ t × q ⊑ t)
@@ -121,6 +135,14 @@ passed_start ends l vs r =
       same = ap in_order x.whole;
       there = omega (arith, ends w x.here.stands x.here.fits);
     }
+
+-- The same at other names of its numbers.
+pub passed_at : {s : List ℕ} {at i j e f k m n : ℕ} {vs : Values} → i ≡ j → e ≡ f → k ≡ m → Passed s at i e k n vs → Passed s at j f m n vs
+passed_at p q r h = rw (← p, ← q, ← r) h
+
+-- As many cells as values stand there.
+pub row_room : {s : List ℕ} {at n : ℕ} → SomeTypedRow s at n → at + n ≤ length s
+row_room r = let t = r.1 in omega (arith, t.stands.inside, t.counted, length_codes r.0, count_weights r.0)
 
 module _ {s : List ℕ} {at i e k n : ℕ} {vs : Values} (h : Passed s at i e k n vs) where
   pub passed_end : n ≤ k → true ≡ fine_members vs

@@ -1,20 +1,24 @@
 -- Two values that follow one another, the first a scalar or a pair of two scalars: which is before the other and whether they share a type, by
 -- their cells. Scalars share a type where the cell of the one is within the bounds of the other's type.
 use Prim.Native.Nat.{ℕ, ◌+◌, ◌*◌, ◌/◌, ◌≤◌, ◌<◌, compare, Ordering}
-use mathlib.Core.Bool.{Bool, true, false, ◌&&◌}
+use mathlib.Core.Bool.{Bool, true, false, not, cond, ◌&&◌}
 use mathlib.Core.List.{List}
 use mathlib.Core.Logic.{◌≢◌, ◌↔◌}
 use mathlib.Core.Path.{◌≡◌, refl, sym, ap, subst, ◌∙◌}
 use native.Mathlib.Omega.{arith}
 use native.Mathlib.Decide.{ℕ_discrete, dec_lt}
-use borrow.Author.Tests.{eq-eqb, ne_eqb, lt-ltb, le-ltb, ltb-true}
+use borrow.Author.Tests.{eq-eqb, ne_eqb, eqb-true, eqb-false, lt-ltb, le-ltb, ltb-true, ltb-false}
 use lib.Dec.{T, eqb, ltb}
+use Rattle.std.specs.Ordering.{is_lt as is_less}
 use lib.ListN.{length, get_or}
+use Rattle.std.proofs.Common.{Some}
+use Rattle.std.specs.Ordering.{partial_ordering_then, nat_cmp, is_le, is_some_and}
+use Rattle.std.specs.declared.cmp.Ordering.TheVariants.{Less, Equal, Greater}
 use Rattle.rules.specs.Values.{Value, scalar, pair, set, weight, ◌then◌, order}
 use Rattle.laws.proofs.OrderLaws.{order_eq, order_pair, then_first, compare_eq, compare_refl, lt_compare, gt_compare}
 use Rattle.laws.proofs.EndLaws.{T_true, T_and, t_eqb}
 use Rattle.laws.proofs.CellsLaws.{weight_some}
-use Rattle.arena.specs.Code.{cell_size, ValueAt, CellsFit, EndsAt, Compared, order_code, IsScalar}
+use Rattle.arena.specs.Code.{cell_size, ValueAt, CellsFit, EndsAt, Compared, ordering_of, IsScalar}
 use Rattle.arena.proofs.CodeLaws.{length_code, fits_small}
 use Rattle.arena.proofs.EvenLaws.{first_cell_order}
 use Rattle.arena.proofs.ValueParts.{first_cell_law, scalar_cell_law, scalar_one, one_cell, left_stands, right_stands}
@@ -52,10 +56,10 @@ module _ (x y : ℕ) where
   alike_low l e = let h = alike_bounds.0 ((T_true _).1 e) in by_tag_law (λ n m b. y ≤ m → y < 4 * cell_size) (λ t k. omega arith) (λ t k. omega arith) h.1
 
 -- Two numbers, by their order.
-less_is : (x y : ℕ) → eqb (order_code (compare x y)) 0 ≡ ltb x y
+less_is : (x y : ℕ) → is_less (ordering_of (compare x y)) ≡ ltb x y
 less_is x y = go (dec_lt x y) (dec_lt y x)
   where
-    go : Dec (x < y) → Dec (y < x) → eqb (order_code (compare x y)) 0 ≡ ltb x y
+    go : Dec (x < y) → Dec (y < x) → is_less (ordering_of (compare x y)) ≡ ltb x y
     go (yes p) d = rw (lt_compare x y p, lt-ltb x y p)
     go (no n) (yes p) = rw (gt_compare x y p, le-ltb x y (omega arith))
     go (no n) (no m) = let e : x ≡ y = omega arith in rw (e, compare_refl y, le-ltb y y (omega arith))
@@ -64,7 +68,7 @@ less_is x y = go (dec_lt x y) (dec_lt y x)
 pub cell_before : (s : List ℕ) (a b : ℕ) → get_or s a 0 < 4 * cell_size → IsBefore s a b (ltb (get_or s a 0) (get_or s b 0))
 cell_before s a b low =
     subst (IsBefore s a b) (less_is (get_or s a 0) (get_or s b 0))
-    (compared_before (λ v w h k p q. ap order_code (sym (first_cell_order s a b v w h k p q (omega (arith, one_cell s a low v h p))))))
+    (compared_before (λ v w h k p q. ap ordering_of (sym (first_cell_order s a b v w h k p q (omega (arith, one_cell s a low v h p))))))
 
 -- The cells of a pair's parts, where the left one is a scalar.
 abbrev left_cell : List ℕ → ℕ → ℕ
@@ -111,6 +115,23 @@ parts_before s a b = pair_before (left_cell s a) (right_cell s a) (left_cell s b
 abbrev pub parts_alike : List ℕ → ℕ → ℕ → Bool
 parts_alike s a b = atoms_alike (left_cell s a) (left_cell s b) && atoms_alike (right_cell s a) (right_cell s b)
 
+-- The pair of c and d is before that of a and b or the same, as std compares them, just where that of a and b is not before it.
+pub pair_not_before : (a b c d : ℕ) → is_some_and is_le (partial_ordering_then (Some (nat_cmp c a)) (Some (nat_cmp d b))) ≡ not (pair_before a b c d)
+pair_not_before a b c d = go (ltb c a) refl (eqb c a) refl (ltb d b) refl (eqb d b) refl
+  where
+    go : (p : Bool) → ltb c a ≡ p → (q : Bool) → eqb c a ≡ q → (r : Bool) → ltb d b ≡ r → (t : Bool) → eqb d b ≡ t →
+        is_some_and is_le (partial_ordering_then (Some (cond p Less (cond q Equal Greater))) (Some (cond r Less (cond t Equal Greater)))) ≡
+        not (pair_before a b c d)
+    go true e q f r g t h =
+        let l : c < a = ltb-true c a e in rw (ne_eqb a c (λ z. omega arith), le-ltb a c (omega arith)) refl
+    go false e true f true g t h =
+        let l : d < b = ltb-true d b g in rw (eq-eqb a c (sym (eqb-true c a f)), le-ltb b d (omega arith)) refl
+    go false e true f false g true h = rw (eq-eqb a c (sym (eqb-true c a f)), le-ltb b d (omega (arith, eqb-true d b h))) refl
+    go false e true f false g false h =
+        rw (eq-eqb a c (sym (eqb-true c a f)), lt-ltb b d (omega (arith, ltb-false d b g, eqb-false d b h))) refl
+    go false e false f r g t h =
+        let n = eqb-false c a f in rw (ne_eqb a c (λ z. n (sym z)), lt-ltb a c (omega (arith, ltb-false c a e, n))) refl
+
 -- A pair of two scalars and another value.
 module _ {s : List ℕ} {a b : ℕ} (p : ScalarPair s a) where
   -- that is no pair
@@ -121,12 +142,12 @@ module _ {s : List ℕ} {a b : ℕ} (p : ScalarPair s a) where
 
   -- and another pair
   module _ (q : get_or s b 0 ≡ 4 * cell_size) where
-    pairs_compared : Compared s a b (order_code (parts_order s a b))
+    pairs_compared : Compared s a b (ordering_of (parts_order s a b))
     pairs_compared (scalar x) w h k f g = absurd (omega (arith, (first_cell_law s a (scalar x) h f).0, p.head, scalar_low_law x))
     pairs_compared (set vs) w h k f g = absurd (omega (arith, (first_cell_law s a (set vs) h f).0, p.head))
     pairs_compared (pair x y) (scalar z) h k f g = absurd (omega (arith, (first_cell_law s b (scalar z) k g).0, q, scalar_low_law z))
     pairs_compared (pair x y) (set ws) h k f g = absurd (omega (arith, (first_cell_law s b (set ws) k g).0, q))
-    pairs_compared (pair x y) (pair z t) h k f g = ap order_code (sym whole)
+    pairs_compared (pair x y) (pair z t) h k f g = ap ordering_of (sym whole)
       where
         one : weight x ≡ 1
         one = (scalar_one x (scalar_cell_law s (a + 1) x (left_stands s a x y h) f.0 p.left)).0
@@ -151,7 +172,7 @@ module _ {s : List ℕ} {a b : ℕ} (p : ScalarPair s a) where
     pub pairs_before : IsBefore s a b (parts_before s a b)
     pairs_before = subst (IsBefore s a b) (go (ℕ_discrete (left_cell s a) (left_cell s b))) (compared_before pairs_compared)
       where
-        go : Dec (left_cell s a ≡ left_cell s b) → eqb (order_code (parts_order s a b)) 0 ≡ parts_before s a b
+        go : Dec (left_cell s a ≡ left_cell s b) → is_less (ordering_of (parts_order s a b)) ≡ parts_before s a b
         go (yes e) = rw (e, eq-eqb (left_cell s b) (left_cell s b) refl, compare_refl (left_cell s b)) (less_is (right_cell s a) (right_cell s b))
         go (no n) =
             rw (

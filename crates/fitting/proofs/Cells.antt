@@ -1,14 +1,16 @@
 -- Values that stand in the arena: what their cells tell of the types that they share.
 use Prim.Native.Nat.{ℕ, ◌+◌, ◌*◌, ◌-◌, ◌/◌, ◌%◌, ◌≤◌, ◌<◌}
-use mathlib.Core.Bool.{Bool, true, false, ◌&&◌}
+use mathlib.Core.Bool.{Bool, true, false, not, ◌&&◌}
 use mathlib.Core.List.{List}
 use mathlib.Core.Logic.{◌≢◌, inl, inr}
-use borrow.Author.Tests.{eq-eqb, ne_eqb}
-use mathlib.Core.Path.{◌≡◌, refl, sym, ◌∙◌, subst}
+use borrow.Author.Tests.{eq-eqb, ne_eqb, eqb-true, eqb-false}
+use mathlib.Core.Path.{◌≡◌, refl, sym, ap, ◌∙◌, subst}
 use native.Mathlib.Omega.{arith}
 use native.Mathlib.Decide.{ℕ_discrete}
 use lib.Dec.{T, eqb}
-use lib.ListN.{length, get_or}
+use lib.ListN.{length, take, drop, get_or, length-drop}
+use lib.Seq.{length-take-le, get_or-drop, get_or-take}
+use Rattle.std.specs.List.{IsAnyAnswer}
 use Rattle.rules.specs.Types.{whole, number, bool}
 use Rattle.rules.specs.Values.{Scalar, num, truth, element, Value, scalar, pair, set, Values, none, ◌▸◌, scalar_tag, tag, count, weight, weights}
 use Rattle.rules.specs.Fits.{TypeSet, atomˢ, ◌⊓◌, types_of, shared_types, inhabited, typed}
@@ -19,13 +21,35 @@ use Rattle.arena.proofs.FrontLaws.{single}
 use Rattle.arena.proofs.ValueParts.{some_inside, first_cell_law, left_stands, right_stands}
 use Rattle.fitting.specs.Agree.{meets, agree, TypedAt, RunAt, SomeTyped, SomeRun, Agreed, AgreedAll, empty_cell, NoEmpty, Members, Full, FullSet, FullAll, Few, atoms_alike, PairOrSet, SetHere}
 use Rattle.fitting.proofs.Sharing.{full_first, meets_sym, meets_same, with_every, meets_first, left_typed, right_typed, ⊓_every}
-use Rattle.rules.proofs.Basics.{and_split}
+use Rattle.fitting.specs.Types.{Decides}
+use Rattle.rules.proofs.Basics.{and_split, absurd01}
 use Rattle.laws.proofs.CellsLaws.{weight_some}
 use Rattle.laws.proofs.EndLaws.{T_true}
 
--- No empty set among the cells passed.
-pub no_empty_more : (s : List ℕ) (at i : ℕ) → NoEmpty s at i → get_or s i 0 ≢ empty_cell → NoEmpty s at (i + 1)
-no_empty_more s at i h n = record { none = λ j p q. elim (ℕ_discrete j i) [ yes e ↦ rw e n | no d ↦ h.none j p (omega arith) ] }
+-- Whether a run of cells has that of an empty set, as std's search answers.
+pub full_decides : (s : List ℕ) (at end : ℕ) (r : Bool) → at ≤ end → end ≤ length s →
+    IsAnyAnswer (λ y b. eqb y empty_cell ≡ b) (take (end - at) (drop at s)) r → Decides (not r) (NoEmpty s at end)
+full_decides s at end true l m h =
+    let part = take (end - at) (drop at s) in
+    let k : h.0 < end - at = omega (arith, h.1, length-take-le (end - at) (drop at s) (omega (arith, length-drop at s))) in
+    record {
+      sound = λ e. absurd01 (cc);
+      complete =
+          λ n. absurd (n.none (at + h.0) (omega arith) (omega arith)
+          (sym (get_or-take (end - at) (drop at s) h.0 0 k ∙ get_or-drop at s h.0 0) ∙ eqb-true _ _ (h.2 0)));
+    }
+full_decides s at end false l m h = record {
+  sound = λ e. record {
+    none = λ i p q n.
+        let k : i - at < end - at = omega arith in
+        let same : at + (i - at) ≡ i = omega arith in
+        let found = get_or-take (end - at) (drop at s) (i - at) 0 k ∙ get_or-drop at s (i - at) 0 ∙ ap (λ (j : ℕ). get_or s j 0) same in
+        eqb-false _ _
+        (h (i - at) 0 (omega arith) (omega (arith, length-take-le (end - at) (drop at s) (omega (arith, length-drop at s)))))
+        (found ∙ n);
+  };
+  complete = λ n. refl;
+}
 
 -- The members of a set.
 pub members_stand : (s : List ℕ) (at : ℕ) (vs : Values) → ValueAt s at (set vs) → ValuesAt s (at + 1) vs

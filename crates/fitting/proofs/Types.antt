@@ -1,12 +1,16 @@
 -- Values of the arena against types in prefix codes.
-use Prim.Native.Nat.{ℕ, ◌+◌, ◌-◌, ◌/◌, ◌%◌, ◌≤◌, ◌<◌}
+use Prim.Native.Nat.{ℕ, zero, suc, ◌+◌, ◌-◌, ◌/◌, ◌%◌, ◌≤◌, ◌<◌}
 use mathlib.Core.Bool.{Bool, true, false, false≢true}
 use mathlib.Core.List.{List, [], ◌∷◌, ◌++◌, append_assoc, append-nil}
 use mathlib.Core.Logic.{◌≢◌}
 use mathlib.Core.Path.{◌≡◌, refl, sym, ap, ◌∙◌, subst}
 use native.Mathlib.Omega.{arith}
 use lib.Dec.{eqb}
-use lib.ListN.{length, get_or, replicate, length-append}
+use native.Mathlib.Decide.{ℕ_discrete}
+use native.Mathlib.Numerals.{add-one}
+use lib.ListN.{length, drop, get_or, replicate, length-append}
+use lib.Seq.{drop-cons}
+use Rattle.prefix.specs.Forms.{Forms}
 use borrow.Author.Tests.{eq-eqb, ne_eqb, eqb-true}
 use Rattle.rules.specs.Types.{whole, Atom, number, bool, given, Ty, atom, POW, ◌⊗◌, atom_code, weightᵀ, prefix, row}
 use Rattle.rules.specs.Values.{Scalar, num, truth, element, scalar, pair, set, Values, none, ◌▸◌, scalar_tag, tag, count}
@@ -104,6 +108,24 @@ module _ {row : List ℕ} {i left e : ℕ} where
   -- each of them takes a byte at least
   pub types_room : PendingTypes row i left e → i + left ≤ length row
   types_room p = omega (arith, count_types p.0, p.1.counted, p.1.codes.inside)
+
+-- Types that stand from i to e are forms in prefix order, as a step P sees them that answers how many parts follow a code.
+module _ (P : ℕ → ℕ → Type 0) (tells : (x r : ℕ) → P x r → r ≡ type_parts x) (row : List ℕ) where
+  types_forms : (n i left e : ℕ) → PendingTypes row i left e → i + n ≡ e → Forms P n (drop i row) left
+  unfolding Forms
+  types_forms zero i left e p z = omega (arith, p.1.counted, p.1.ends, count_types p.0)
+  types_forms (suc n) i left e p z =
+      let some : 0 < left = elim (ℕ_discrete left 0) [ yes q ↦ absurd (omega (arith, types_end p q)) | no q ↦ omega arith ] in
+      let d : get_or row i 0 ∷ drop (i + 1) row ≡ drop i row =
+      ap (λ j. get_or row i 0 ∷ drop j row) (add-one i) ∙ sym (drop-cons row i 0 (omega (arith, types_room p))) in
+      subst (λ (xs : List ℕ). Forms P (suc n) xs left) d (
+        some,
+        omega (arith, p.1.counted, p.1.ends, count_types p.0),
+        λ r h. rw (tells _ r h) (types_forms n (i + 1) _ e (types_step p some) (omega arith)),
+      )
+
+  pub type_forms : (from : ℕ) (t : Ty) → TypeAt row from t → Forms P (weightᵀ t) (drop from row) 1
+  type_forms from t h = types_forms (weightᵀ t) from 1 (from + weightᵀ t) (types_start row from t h) refl
 
 -- The code of a type without parts tells the type.
 head_atom : (a : Atom) (t : Ty) → head t ≡ atom_code a → t ≡ atom a

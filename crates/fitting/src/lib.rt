@@ -9,19 +9,19 @@ ghost use Rattle.fitting.specs.Types.{Decides, type_parts, SomeType, TypeEnds, a
 ghost use Rattle.fitting.specs.Tests.{FitOne, FitTwo, Both, PairsAndOne, AgreedLefts};
 ghost use Rattle.fitting.specs.Agree.{NoEmpty, SomeTyped, SetHere, Few, Members, atoms_alike, PairOrSet, OneAndRun, RunAndRun, Agreed, AgreedWith, AgreedAll};
 
+// The codes of types in a sheet: of POW, of a product, and of the first given set. They stay numbers (C interface: they are the sheet's bytes).
+pub const POWER: u8 = 3;
+
+pub const PRODUCT: u8 = 4;
+
+const FIRST_GIVEN: u64 = 16;
+
 // Whether no cell from `at` to `end` is that of an empty set.
 pub fn full(s: &[u64], at: usize, end: usize) -> bool
     requires { (at ≤ end) × (end ≤ length s.now) }
     ensures { Decides result (NoEmpty s.now at end) }
 {
-    let mut i = at;
-    while i < end {
-        if s[i] == arena::SET {
-            return false;
-        }
-        i += 1;
-    }
-    true
+    !s[at..end].contains(&arena::SET)
 }
 
 // 1 where the value at `at`, the first of n, has one type only; otherwise n.
@@ -29,17 +29,11 @@ fn few(s: &[u64], at: usize, n: usize) -> usize
     requires { 0 < n → SomeTyped s.now at }
     ensures { Few s.now at n result }
 {
-    if n == 0 {
-        return n;
+    if n > 0 && (s[at] < arena::PAIR || full(s, at, arena::end_of(s, at))) {
+        1
+    } else {
+        n
     }
-    if s[at] < arena::PAIR {
-        return 1;
-    }
-    let end = arena::end_of(s, at);
-    if full(s, at, end) {
-        return 1;
-    }
-    n
 }
 
 // How many of the first members of the set at `a` stand for all of them.
@@ -47,19 +41,18 @@ fn members(s: &[u64], a: usize) -> usize
     requires { SetHere s.now a }
     ensures { Members s.now a result }
 {
-    let n = arena::low(s[a]);
-    few(s, a + 1, n as usize)
+    few(s, a + 1, arena::low(s[a]) as usize)
 }
 
 // Whether two cells, the first that of a scalar, are of one type: they have one tag, and elements are of one given set.
 fn atoms_alike(x: u64, y: u64) -> bool
     ensures { result ≡ atoms_alike x y }
 {
-    let t = arena::tag(x);
-    if t == arena::ELEMENT_TAG {
-        return x / arena::GIVEN == y / arena::GIVEN;
+    if arena::tag(x) == arena::ELEMENT_TAG {
+        x / arena::GIVEN == y / arena::GIVEN
+    } else {
+        arena::tag(x) == arena::tag(y)
     }
-    t == arena::tag(y)
 }
 
 // Whether the values at a and b share a type.
@@ -91,17 +84,13 @@ fn meet(s: &[u64], a: usize, b: usize) -> bool
     if t == arena::SET_TAG {
         let n = members(s, a);
         let m = members(s, b);
-        if n == 1 {
-            return against(s, c, d, m);
-        }
-        return each(s, c, n, d, m);
+        return if n == 1 {
+            against(s, c, d, m)
+        } else {
+            each(s, c, n, d, m)
+        };
     }
-    if !agree(s, c, d) {
-        return false;
-    }
-    let e = arena::end_of(s, c);
-    let f = arena::end_of(s, d);
-    agree(s, e, f)
+    agree(s, c, d) && agree(s, arena::end_of(s, c), arena::end_of(s, d))
 }
 
 // Whether the value at a shares a type with the m values from b on.
@@ -111,16 +100,15 @@ pub fn against(s: &[u64], a: usize, b: usize, m: usize) -> bool
     ensures { AgreedWith s.now a b m result }
 {
     let mut j = b;
-    let mut left = m;
-    while left > 0 {
+    for left in (0..m).rev() {
         if !agree(s, a, j) {
             return false;
         }
-        if left == 1 {
+        // Most often one value stands for all: its end is not needed.
+        if left == 0 {
             return true;
         }
         j = arena::end_of(s, j);
-        left -= 1;
     }
     true
 }
@@ -132,13 +120,11 @@ fn each(s: &[u64], a: usize, n: usize, b: usize, m: usize) -> bool
     ensures { AgreedAll s.now a n b m result }
 {
     let mut i = a;
-    let mut left = n;
-    while left > 0 {
+    for _ in 0..n {
         if !against(s, i, b, m) {
             return false;
         }
         i = arena::end_of(s, i);
-        left -= 1;
     }
     true
 }
@@ -157,13 +143,8 @@ pub fn is_relation(s: &[u64], a: usize) -> bool
     ensures { FitOne (P̂ (t̂ ×̂ û) ∷ []) s.now a result }
 {
     let x = s[a];
-    if arena::tag(x) != arena::SET_TAG {
-        return false;
-    }
-    if arena::low(x) == 0 {
-        return true;
-    }
-    arena::tag(s[a + 1]) == arena::PAIR_TAG
+    arena::tag(x) == arena::SET_TAG
+        && (arena::low(x) == 0 || arena::tag(s[a + 1]) == arena::PAIR_TAG)
 }
 
 // t and t
@@ -179,11 +160,7 @@ pub fn belongs(s: &[u64], a: usize, b: usize) -> bool
     requires { Both s.now a b }
     ensures { FitTwo (t̂ ∷ P̂ t̂ ∷ []) s.now a b result }
 {
-    if !is_set(s, b) {
-        return false;
-    }
-    let m = members(s, b);
-    against(s, a, b + 1, m)
+    is_set(s, b) && against(s, a, b + 1, members(s, b))
 }
 
 // P(t) and P(t)
@@ -191,10 +168,7 @@ pub fn alike_sets(s: &[u64], a: usize, b: usize) -> bool
     requires { Both s.now a b }
     ensures { FitTwo (P̂ t̂ ∷ P̂ t̂ ∷ []) s.now a b result }
 {
-    if !is_set(s, a) {
-        return false;
-    }
-    agree(s, a, b)
+    is_set(s, a) && agree(s, a, b)
 }
 
 // P(t) and P(u)
@@ -202,10 +176,7 @@ pub fn sets(s: &[u64], a: usize, b: usize) -> bool
     requires { Both s.now a b }
     ensures { FitTwo (P̂ t̂ ∷ P̂ û ∷ []) s.now a b result }
 {
-    if !is_set(s, a) {
-        return false;
-    }
-    is_set(s, b)
+    is_set(s, a) && is_set(s, b)
 }
 
 // numbers
@@ -213,29 +184,25 @@ pub fn numbers(s: &[u64], a: usize, b: usize) -> bool
     requires { Both s.now a b }
     ensures { FitTwo (numᵖ whole ∷ numᵖ whole ∷ []) s.now a b result }
 {
-    if arena::tag(s[a]) != arena::NUMBER_TAG {
-        return false;
-    }
-    arena::tag(s[b]) == arena::NUMBER_TAG
+    arena::tag(s[a]) == arena::NUMBER_TAG && arena::tag(s[b]) == arena::NUMBER_TAG
 }
 
-// Whether the left parts of the n pairs from a on share a type with the value at b.
+// Whether the left parts of the n pairs from a on share a type with the value at b. `against` for values is its like: a parameter for how far
+// behind a member's place it is compared would be no plainer, and a third meaning of `against`.
 fn lefts(s: &[u64], a: usize, n: usize, b: usize) -> bool
     requires { PairsAndOne s.now a n b }
     ensures { AgreedLefts s.now a n b result }
 {
     let mut i = a;
-    let mut left = n;
-    while left > 0 {
+    for left in (0..n).rev() {
         if !agree(s, i + 1, b) {
             return false;
         }
         // Most often the first pair stands for all: its end is not needed.
-        if left == 1 {
+        if left == 0 {
             return true;
         }
         i = arena::end_of(s, i);
-        left -= 1;
     }
     true
 }
@@ -258,13 +225,11 @@ pub fn applies(s: &[u64], a: usize, b: usize) -> bool
 pub fn type_parts(c: u8) -> usize
     ensures { result ≡ type_parts c }
 {
-    if c == 3 {
-        return 1;
+    match c {
+        POWER => 1,
+        PRODUCT => 2,
+        _ => 0,
     }
-    if c == 4 {
-        return 2;
-    }
-    0
 }
 
 // Where the type that begins at `from` ends.
@@ -272,25 +237,17 @@ fn type_end(row: &[u8], from: usize) -> usize
     requires { SomeType row.now from }
     ensures { TypeEnds row.now from result }
 {
-    let mut i = from;
-    let mut left: usize = 1;
-    while left > 0 {
-        let p = type_parts(row[i]);
-        left = left - 1 + p;
-        i += 1;
-    }
-    i
+    prefix::form_end(row, from, type_parts)
 }
 
 // Whether a cell, neither a pair's nor a set's, has the type without parts with this code.
 fn atom_is(x: u64, c: u8) -> bool
     ensures { result ≡ atom_is x c }
 {
-    let t = arena::tag(x);
-    if t == arena::ELEMENT_TAG {
-        return arena::low(x) / arena::GIVEN + 16 == c as u64;
+    match arena::tag(x) {
+        arena::ELEMENT_TAG => arena::low(x) / arena::GIVEN + FIRST_GIVEN == u64::from(c),
+        t => t == u64::from(c),
     }
-    t == c as u64
 }
 
 // Whether the value at `at` has the type whose prefix codes begin at `from`.
@@ -301,44 +258,33 @@ pub fn has_type(s: &[u64], at: usize, row: &[u8], from: usize) -> bool
 {
     let x = s[at];
     let c = row[from];
-    let t = arena::tag(x);
-    if t == arena::SET_TAG {
-        if c != 3 {
-            return false;
+    match arena::tag(x) {
+        arena::SET_TAG => c == POWER
+            && all_of_type(s, at + 1, arena::low(x) as usize, row, from + 1),
+        arena::PAIR_TAG => {
+            let left = at + 1;
+            let code = from + 1;
+            c == PRODUCT
+                && (has_type(s, left, row, code)
+                    && has_type(s, arena::end_of(s, left), row, type_end(row, code)))
         }
-        let n = arena::low(x) as usize;
-        return all_of_type(s, at + 1, n, row, from + 1);
+        _ => atom_is(x, c),
     }
-    if t == arena::PAIR_TAG {
-        if c != 4 {
-            return false;
-        }
-        let left = at + 1;
-        let code = from + 1;
-        if !has_type(s, left, row, code) {
-            return false;
-        }
-        let right = arena::end_of(s, left);
-        let next = type_end(row, code);
-        return has_type(s, right, row, next);
-    }
-    atom_is(x, c)
 }
 
-// Whether the n values from `at` on have the type at `from`.
+// Whether the n values from `at` on have the type at `from`. Its like, `each`, asks another test of each value; a closure for the test would be no
+// plainer, since each calls back the function that calls it.
 #[cycle(all_of_type_has_type)]
 fn all_of_type(s: &[u64], at: usize, n: usize, row: &[u8], from: usize) -> bool
     requires { ValuesAndType s.now at n row.now from }
     ensures { AllOfType s.now at n row.now from result }
 {
     let mut i = at;
-    let mut left = n;
-    while left > 0 {
+    for _ in 0..n {
         if !has_type(s, i, row, from) {
             return false;
         }
         i = arena::end_of(s, i);
-        left -= 1;
     }
     true
 }

@@ -1,7 +1,7 @@
 -- Relations in the arena. Whether no pair shares its first part with the next one is decided by the pairs that are left (`Checking`); what is found is
 -- an application (`image_found`). Pairs of two values of one cell each are three cells: the order of the first parts of two neighbours is that of their
 -- cells (`cells_order`), so that the first parts make a row (`pair_row`), and e is one where its cell is in the row (`flat_none`, `flat_found`).
-use Rattle.sets.proofs.Base.{ℕ, ◌+◌, ◌-◌, ◌%◌, ◌≤◌, ◌<◌, Ordering·lt, Ordering·eq, Ordering·gt, suc, ◌*◌, compare, Bool, true, false, List, ◌≡◌, refl, sym, ap, ◌∙◌, subst, arith, compare_is_eq, length, get_or, inl, inr}
+use Rattle.sets.proofs.Base.{ℕ, Some, None, ◌+◌, ◌-◌, ◌%◌, ◌≤◌, ◌<◌, Ordering·lt, Ordering·eq, Ordering·gt, suc, ◌*◌, compare, Bool, true, false, List, ◌≡◌, refl, sym, ap, ◌∙◌, subst, arith, compare_is_eq, length, get_or, inl, inr}
 use Rattle.functions.proofs.Terms.{Value, pair, set, Values, none, ◌▸◌, members, weight, order, same, left, right, ValueAt, SomeAt, EndsAt, SameAt, SetBelow, SomeValue, ValueBelow, Front, IsPair, AllPairs, SomeRelation, cell_size, AllWeigh, EvenSet, Member, new_firsts, SomePairs, Relation, WithinSet, Applies, PairSought, IsFunction, FlatPairs, SomeFlat, Row}
 use Rattle.laws.proofs.OrderLaws.{then_lt, order_pair, before_order, compare_lt, compare_eq, compare_refl, same_order}
 use mathlib.Core.Bool.{false≢true}
@@ -13,7 +13,7 @@ use Rattle.arena.proofs.ValueParts.{left_stands, right_stands, scalar_cell_law, 
 use Rattle.arena.proofs.FrontLaws.{front_start, front_value, front_next, front_below}
 use Rattle.sets.proofs.KeyLaws.{on_pair}
 use Rattle.functions.proofs.PairLaws.{applied_none, applied_shared, applied_found}
-use Rattle.sets.proofs.SearchLaws.{sought_some, sought_none, key_stands, by_front, no_front}
+use Rattle.sets.proofs.SearchLaws.{key_stands, by_front, no_front}
 use Rattle.laws.proofs.CellsLaws.{weight_some}
 use Rattle.arena.proofs.EvenLaws.{weights_even, value_at_law, cell_order}
 use Rattle.sets.proofs.RowLaws.{climb, neighbours, place_of, same_cell, cell_tells}
@@ -133,28 +133,27 @@ pub relation_run : {s : List ℕ} {f n : ℕ} {flat : Bool} → Relation s f n f
 relation_run r = let q = r.relation in (_, _, front_start _ _ _ _ q.1 _ r.counted, q.2)
 
 -- What the search for a pair and the test tell of an application.
-pub image_none : {s : List ℕ} {f e i : ℕ} → PairSought s f e i → i ≡ 0 → Applies s f e 0
-image_none sought z vs v h k p = rw (applied_none v k.fits vs p h.fine (sought_none (sought vs v h k p) (omega arith))) (refl, refl)
+pub image_none : {s : List ℕ} {f e : ℕ} → PairSought s f e None → Applies s f e None
+image_none sought vs v h k p = rw (applied_none v k.fits vs p h.fine (sought vs v h k p)) refl
 
-pub image_shared : {s : List ℕ} {f e : ℕ} {b : Bool} → IsFunction s f b → b ≡ false → Applies s f e 0
-image_shared g z vs v h k p = rw (applied_shared v k.fits vs p h.fine (sym (g vs h p) ∙ z)) (refl, refl)
+pub image_shared : {s : List ℕ} {f e : ℕ} {b : Bool} → IsFunction s f b → b ≡ false → Applies s f e None
+image_shared g z vs v h k p = rw (applied_shared v k.fits vs p h.fine (sym (g vs h p) ∙ z)) refl
 
-module _ {s : List ℕ} {f e i : ℕ} (sought : PairSought s f e i) (some : i ≡ 0 → ⊥) where
+module _ {s : List ℕ} {f e i : ℕ} (sought : PairSought s f e (Some i)) where
   -- the first part of the pair that is found
   pub first_part : SomeValue s (length s) e → SomeRelation s (length s) f → SomeAt s (i + 1)
   first_part q r =
-      let m = sought_some (sought r.0 q.0 r.1 q.1 r.2) some in
+      let m = sought r.0 q.0 r.1 q.1 r.2 in
       let p = all_in_law IsPair m.is (members r.0) (all_pairs r.0 r.2) m.among in
       let x = key_stands true s i m.is none (p, tt) m.value.stands m.value.fits in
       record { value = left m.is; stands = x.0; fits = x.1 }
 
-  pub image_found : {b : Bool} → IsFunction s f b → b ≡ true → {r : ℕ} → EndsAt s (i + 1) r → Applies s f e r
+  pub image_found : {b : Bool} → IsFunction s f b → b ≡ true → {r : ℕ} → EndsAt s (i + 1) r → Applies s f e (Some r)
   image_found g z {r} ends vs v h k p =
-      let m = sought_some (sought vs v h k p) some in
+      let m = sought vs v h k p in
       rw (applied_found v k.fits vs p h.fine m.is m.among m.key (sym (g vs h p) ∙ z))
       (on_pair (λ w. ValueBelow s (f + weight (set vs)) i w → WithinSet s f vs r (right w))
       (λ a b w. let x : r ≡ i + 1 + weight a = ends a (left_stands s i a b w.stands) w.fits.0 in record {
-        positive = omega arith;
         behind = omega (arith, m.behind);
         value = record {
           stands = rw x (right_stands s i a b w.stands);
@@ -237,20 +236,28 @@ module _ {s : List ℕ} {top f : ℕ} {vs : Values} (h : SetBelow s top f vs) (p
         omega (arith, g.stands.inside, length_codes (pair a b ▸ ws), weight_some a, weight_some b)
 
 -- `flat_function`: cells tell whether two pairs share a first part.
+pub flat_start : {s : List ℕ} {top at n i left : ℕ} {vs : Values} → Front s top at n vs → FlatPairs vs → i ≡ at → left ≡ n →
+    Checking (AllWeigh 3) s top vs i left
+flat_start f p u w = rw (u, w) (record { rest = _; front = f; pairs = p.1; known = p.0; result = refl })
+
 module _ {s : List ℕ} {top : ℕ} {vs : Values} {i left : ℕ} (h : Checking (AllWeigh 3) s top vs i left) where
   pub checking_inside : i + 3 * left ≤ length s
   checking_inside = flat_inside h.front (h.known, h.pairs)
 
   module _ (l : 1 < left) where
-    pub flat_shared : get_or s (i + 1) 0 ≡ get_or s (i + 3 + 1) 0 → false ≡ new_firsts (members vs)
-    flat_shared e = checking_shared h l (λ a b c d ws f k. cells_order f k ∙ rw e (compare_refl (get_or s (i + 3 + 1) 0)))
+    -- x and y are where the first parts stand
+    module _ {x y : ℕ} (p : x ≡ i + 1) (q : y ≡ i + 3 + 1) where
+      pub flat_shared : get_or s x 0 ≡ get_or s y 0 → false ≡ new_firsts (members vs)
+      flat_shared e =
+          let same_cells : get_or s (i + 1) 0 ≡ get_or s (i + 3 + 1) 0 = rw (← p, ← q) e in
+          checking_shared h l (λ a b c d ws f k. cells_order f k ∙ rw same_cells (compare_refl (get_or s (i + 3 + 1) 0)))
 
-    pub flat_next : (get_or s (i + 1) 0 ≡ get_or s (i + 3 + 1) 0 → ⊥) → Checking (AllWeigh 3) s top vs (i + 3) (left - 1)
-    flat_next n = checking_next h l (i + 3) (λ a b c d ws f k. (
-      λ z. n (compare_eq (get_or s (i + 1) 0) (get_or s (i + 3 + 1) 0) (sym (cells_order f k) ∙ z)),
-      omega (arith, k.0),
-      k.1,
-    ))
+      pub flat_next : {j m : ℕ} → (get_or s x 0 ≡ get_or s y 0 → ⊥) → j ≡ i + 3 → m ≡ left - 1 → Checking (AllWeigh 3) s top vs j m
+      flat_next n u w = rw (u, w) (checking_next h l (i + 3) (λ a b c d ws f k. (
+        λ z. n (rw (p, q) (compare_eq (get_or s (i + 1) 0) (get_or s (i + 3 + 1) 0) (sym (cells_order f k) ∙ z))),
+        omega (arith, k.0),
+        k.1,
+      )))
 
 pub relation_flat : {s : List ℕ} {f n : ℕ} {flat : Bool} → Relation s f n flat → flat ≡ true → SomeFlat s (f + 1) n
 relation_flat r e = let q = r.relation in (_, _, front_start _ _ _ _ q.1 _ r.counted, r.thin e _ _ q.1 q.2)

@@ -1,6 +1,6 @@
 -- Application of a relation f to e. The pairs of f rise by their first parts, so that two pairs that share one are neighbours; that
 -- neighbours tell whether f is a function is `firsts_right`.
-use Rattle.std.specs.Prelude.{ℕ, ◌+◌, ◌%◌, ◌<◌, Bool, true, not, ◌&&◌, List, [], ◌∷◌, ◌≡◌, length, get_or}
+use Rattle.std.specs.Prelude.{ℕ, ◌+◌, ◌%◌, ◌<◌, Bool, true, not, ◌&&◌, List, [], ◌∷◌, Option, Some, None, ◌≡◌, length, get_or}
 use Rattle.rules.specs.Values.{Value, set, Values, members, weight, same}
 use Rattle.rules.specs.Runs.{Given, gives, lacks}
 use Rattle.rules.specs.Operations.{left, applied}
@@ -46,8 +46,8 @@ pub record Relation (s : List ℕ) (f n : ℕ) (flat : Bool) : Type 0 where
   pub counted : n ≡ get_or s f 0 % 4294967296
   pub thin : flat ≡ true → FlatAt s f
 
--- r is where a pair of f stands whose first part is the value at e, or 0 where there is none.
-abbrev pub PairSought : List ℕ → ℕ → ℕ → ℕ → Type 0
+-- r is where a pair of f stands whose first part is the value at e, if there is one.
+abbrev pub PairSought : List ℕ → ℕ → ℕ → Option ℕ → Type 0
 PairSought s f e r =
     (vs : Values) (v : Value) → SetBelow s (length s) f vs → ValueBelow s (length s) e v → AllPairs vs →
     MemberOrNone s (f + weight (set vs)) (f + 1) true v (members vs) r
@@ -62,15 +62,16 @@ KnownFunction s f k = k ≡ true → IsFunction s f true
 
 -- u stands at r, within the set vs at f.
 pub record WithinSet (s : List ℕ) (f : ℕ) (vs : Values) (r : ℕ) (u : Value) : Type 0 where
-  pub positive : 0 < r
   pub behind : f < r
   pub value : ValueBelow s (f + weight (set vs)) r u
 
--- r is where the answer of an application stands, or 0 where there is none (16).
-abbrev pub ImageAt : List ℕ → ℕ → Values → ℕ → Given → Type 0
-ImageAt s f vs r (lacks k) = (k ≡ 16) × (r ≡ 0)
-ImageAt s f vs r (gives u) = WithinSet s f vs r u
+-- The answer is where that of an application stands, if there is one; otherwise the application lacks it (16).
+abbrev pub ImageAt : List ℕ → ℕ → Values → Option ℕ → Given → Type 0
+ImageAt s f vs None (lacks k) = k ≡ 16
+ImageAt s f vs None (gives u) = ⊥
+ImageAt s f vs (Some r) (lacks k) = ⊥
+ImageAt s f vs (Some r) (gives u) = WithinSet s f vs r u
 
-abbrev pub Applies : List ℕ → ℕ → ℕ → ℕ → Type 0
+abbrev pub Applies : List ℕ → ℕ → ℕ → Option ℕ → Type 0
 Applies s f e r =
     (vs : Values) (v : Value) → SetBelow s (length s) f vs → ValueBelow s (length s) e v → AllPairs vs → ImageAt s f vs r (applied (set vs) v)

@@ -1,7 +1,8 @@
 -- The merge of two sets whose members are one cell each. A cell that is stored is a value put behind what has been built, or it lies
 -- behind it (`cell_put`); so a turn at two cells is a turn of the merge (`merge_step`). What comes before the other set's first cell is
 -- so many turns on one side (`taken`), with which the merge begins (`merge_start`).
-use Rattle.sets.proofs.Base.{ℕ, zero, suc, ◌+◌, ◌*◌, ◌-◌, ◌≤◌, ◌<◌, Ordering·lt, Ordering·gt, Bool, true, false, cond, List, [], ◌∷◌, ◌++◌, append_assoc, ◌⊎◌, inl, inr, ◌≡◌, refl, sym, ap, ◌∙◌, subst, arith, dec_lt, length, get_or, set_at, length-set, get_or-set_same, get_or-set_other, le-leb, lt-leb, bool_byte}
+use mathlib.Core.Bool.{beq, ◌&&◌}
+use Rattle.sets.proofs.Base.{Option, ℕ, zero, suc, ◌+◌, ◌*◌, ◌-◌, ◌≤◌, ◌<◌, Ordering·lt, Ordering·gt, Bool, true, false, cond, List, [], ◌∷◌, ◌++◌, append_assoc, ◌⊎◌, inl, inr, ◌≡◌, refl, sym, ap, ◌∙◌, subst, arith, dec_lt, length, get_or, set_at, length-set, get_or-set_same, get_or-set_other, le-leb, lt-leb, bool_byte}
 use Rattle.merging.proofs.Terms.{Value, Values, none, ◌▸◌, members, count, weight, weights, order, kept_value, code, codes, ValuesAt, Same, EndsAt, Front, Out, Walk, CellTurn, merged, comparisons, TurnAt, Cells, PutPre, PutBehind, Merging, EndPre, Ended, RunsMerge, Walking, CellTurned, RowsBelow, Ahead, RowMerge, SomeRowMerge, RowsWalked, Place}
 use Rattle.laws.proofs.CellsLaws.{count_weights}
 use Rattle.laws.proofs.OrderLaws.{flip, order_flip, lt_compare}
@@ -149,7 +150,7 @@ module _ {s : List ℕ} {a m b n top : ℕ} (below : RowsBelow s a m b n top) {p
       frame' = same_trans top o.to s s' s'' frame put'.frame (omega (arith, counts.0))
 
       fronts_merging : (e : Bool) (vs ws : Values) → Front s top a m vs → Front s top b n ws →
-          Merging l e r s'' top (record { a = a + p; m = m - p; b = b + q; n = n - q; to = o'.to; count = o'.count; turns = p + q })
+          Merging l e r s'' top (record { fronts = record { a = a + p; m = m - p; b = b + q; n = n - q }; out = o'; turns = p + q })
           (members vs) (members ws)
       fronts_merging e vs ws f g =
           let t = taken l (merged l e r) comparisons
@@ -160,6 +161,7 @@ module _ {s : List ℕ} {a m b n top : ℕ} (below : RowsBelow s a m b n top) {p
           q ws t.rest g t.front below.rows.right (cells_part below.rows.left (omega arith) (omega (arith, h.few))) k in
           let first = cond l (members t.first) [] in
           let second = cond r (members u.first) [] in
+          let rest = merged l e r (members t.rest) (members u.rest) in
           record {
             left = t.rest;
             right = u.rest;
@@ -171,7 +173,7 @@ module _ {s : List ℕ} {a m b n top : ℕ} (below : RowsBelow s a m b n top) {p
                 (stands_frame top s s' b (codes u.first) frame (omega (arith, length_codes u.first, u.weighs, k.few, (rows_small below).3)) u.stands)
                 (omega (arith, u.weighs)) u.counted;
             all = t.all ∙ ap (λ (zs : List Value). first ++ zs) u.all
-                ∙ sym (append_assoc first second (merged l e r (members t.rest) (members u.rest)));
+                ∙ sym {a = (first ++ second) ++ rest} {b = first ++ (second ++ rest)} (append_assoc first second rest);
             compared = omega (arith, t.compared, u.compared);
           }
 
@@ -198,6 +200,13 @@ pub rows_walked : {l e r : Bool} {s₀ s : List ℕ} {a m b n top : ℕ} {w : Pl
     ((k : Bool) → RowMerge l k r s₀ a m b n top s w.a w.b w.to w.turns) → RowsWalked l e r s w (a + m) (b + n) s' w' →
     RowMerge l e r s₀ a m b n top s' w'.a w'.b w'.to w'.turns × ((a + m ≤ w'.a) ⊎ (b + n ≤ w'.b))
 rows_walked {e = e} f d = d.on _ _ _ _ _ _ (f e) refl refl
+
+-- Which members are kept is compared one by one.
+pub all_kept : (l e r : Bool) → (beq l true && (beq e true && beq r true)) ≡ true → (l ≡ true) × (e ≡ true) × (r ≡ true)
+all_kept true true true h = (refl, refl, refl)
+all_kept true true false h = absurd (cc)
+all_kept true false r h = absurd (cc)
+all_kept false e r h = absurd (cc)
 
 -- Where all three are kept, what is said of a union is said of the merge, both ways.
 module _ {l e r : Bool} (x : l ≡ true) (y : e ≡ true) (z : r ≡ true) {s : List ℕ} {w : Place} {end end2 : ℕ} where
@@ -238,7 +247,7 @@ module _ {l e r : Bool} {s₀ : List ℕ} {a m b n top : ℕ} {s : List ℕ} {i 
     -- a turn that takes the cell at `from`
     next : (keep : Bool) {from i' j' : ℕ} → from < top → (i ≤ i') × (i' ≤ a + m) × (j ≤ j') × (j' ≤ b + n) × (i + j < i' + j') →
         TurnAt s i (a + m - i) j (b + n - j) l e r
-        (record { from = from; end = from + 1; keep = keep; a = i'; m = a + m - i'; b = j'; n = b + n - j' }) →
+        (record { from = from; end = from + 1; keep = keep; rest = record { a = i'; m = a + m - i'; b = j'; n = b + n - j' } }) →
         RowMerge l e r s₀ a m b n top (set_at s to (get_or s from 0)) i' j' (to + bool_byte keep) (turns + 1)
     next keep {from} low x turn =
         let y = byte_small keep in
@@ -266,11 +275,11 @@ module _ {l e r : Bool} {s₀ : List ℕ} {a m b n top : ℕ} {s : List ℕ} {i 
         (λ d. rw (let z : j + 0 ≡ j = omega arith in z) (next l x.0 (omega arith) (turn_less (cell_less s i j ends' d) ends refl (omega arith))))
         (λ d. next e x.0 (omega arith) (turn_equal (cell_equal s i j ends' d) ends ends' (omega arith) refl (omega arith)))
         (λ d. rw (let z : i + 0 ≡ i = omega arith in z)
-        (next r x.1 (omega arith) (turn_greater (cell_greater s i j ends' d) ends ends' (omega arith) (λ z. omega arith) (λ z. omega arith))))
+        (next r x.1 (omega arith) (turn_greater (cell_greater s i j ends' d) ends ends' (omega arith) refl)))
 
   -- The end of the merge.
   abbrev pub last : Walk
-  last = record { a = i; m = a + m - i; b = j; n = b + n - j; to = to; count = to - top - 1; turns = turns }
+  last = record { fronts = record { a = i; m = a + m - i; b = j; n = b + n - j }; out = record { to = to; count = to - top - 1 }; turns = turns }
 
   pub last_walking : Walking l e r s₀ a m b n top s last
   last_walking = rw (let z : to - top - 1 ≡ h.count = omega (arith, h.count_is) in z) h.walking
@@ -282,8 +291,27 @@ module _ {l e r : Bool} {s₀ : List ℕ} {a m b n top : ℕ} {s : List ℕ} {i 
         (elim o [ inl z ↦ inl (omega arith) | inr z ↦ inr (inl (omega arith)) ]) λ _. (left_cells, right_cells)
 
     -- One set is exhausted: no comparison is left.
-    pub merge_made : {s' : List ℕ} {k : ℕ} → Ended l r s last top s' k →
+    pub merge_made : {s' : List ℕ} {k : Option ℕ} → Ended l r s last top s' k →
         RunsMerge l e r s₀ a m b n top s' (record { end = k; comparisons = turns })
     merge_made {s'} {k} d =
         subst (λ (c : ℕ). RunsMerge l e r s₀ a m b n top s' (record { end = k; comparisons = c })) (let z : turns + 0 ≡ turns = omega arith in z)
         (walking_made last_walking d (exhausted (elim o [ inl z ↦ inl (omega arith) | inr z ↦ inr (omega arith) ])))
+
+-- `walk_rows`: each merge that has come to i and j has come to i' and j'.
+abbrev pub RowsOn : Bool → Bool → Bool → ℕ → ℕ → List ℕ → ℕ → ℕ → ℕ → ℕ → List ℕ → ℕ → ℕ → ℕ → ℕ → Type 0
+RowsOn l e r end end2 s i j to turns s' i' j' to' turns' =
+    (s₀ : List ℕ) (a m b n top : ℕ) → RowMerge l e r s₀ a m b n top s i j to turns → end ≡ a + m → end2 ≡ b + n →
+    RowMerge l e r s₀ a m b n top s' i' j' to' turns'
+
+module _ {l e r : Bool} {s : List ℕ} {w : Place} {end end2 : ℕ} {s' : List ℕ} {i j to turns : ℕ} where
+  -- there is room for a cell, where both sets have cells left
+  pub rows_inside : (p : SomeRowMerge l e r s w end end2) → RowsOn l e r end end2 s w.a w.b w.to w.turns s' i j to turns → i < end → j < end2 →
+      (to < length s') × (to + 1 ≤ p.top + 512) × (p.top + 514 ≤ length s') × (turns ≤ 510)
+  rows_inside p on x y =
+      let h = on _ _ _ _ _ _ p.merge p.ends p.ends2 in
+      omega (arith, merge_inside h (omega (arith, p.ends)) (omega (arith, p.ends2)), h.below.room, h.walking.frame.kept)
+
+  pub rows_next : RowsOn l e r end end2 s w.a w.b w.to w.turns s' i j to turns → i < end → j < end2 → {u : CellTurn} →
+      CellTurned l e r (get_or s' i 0) (get_or s' j 0) u →
+      RowsOn l e r end end2 s w.a w.b w.to w.turns (set_at s' to u.cell) (i + u.left) (j + u.right) (to + u.keep) (turns + 1)
+  rows_next on x y turn s₀ a m b n top h e e2 = merge_step (on s₀ a m b n top h e e2) (omega (arith, e)) (omega (arith, e2)) turn

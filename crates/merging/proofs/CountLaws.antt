@@ -31,11 +31,11 @@ counting_start vs ws f g = record { left = vs; right = ws; on_left = f; on_right
 
 module _ {s : List ℕ} {top a m b n turns whole : ℕ} (h : Counting s top a m b n turns whole) where
   pub counting_turn : 0 < m → 0 < n → {t : Turn} → TurnAt s a m b n true true true t →
-      Counting s top t.a t.m t.b t.n (turns + 1) whole × (t.m + t.n < m + n)
+      Counting s top t.rest.a t.rest.m t.rest.b t.rest.n (turns + 1) whole × (t.rest.m + t.rest.n < m + n)
   counting_turn i j {t} turn =
       by_fronts
       (λ vs ws. whole ≡ turns + comparisons (members vs) (members ws) →
-      Counting s top t.a t.m t.b t.n (turns + 1) whole × (t.m + t.n < m + n))
+      Counting s top t.rest.a t.rest.m t.rest.b t.rest.n (turns + 1) whole × (t.rest.m + t.rest.n < m + n))
       (λ v vs w ws f g q. let d = turn top v vs w ws f g in
       let o = order v w in (
         record {

@@ -5,8 +5,9 @@ pub use Rattle.rules.specs.Operations.{kept_value, placed, set_of}
 pub use Rattle.rules.specs.Runs.{gives}
 pub use Rattle.rules.specs.Values.{Value, Values, ◌▸◌, count, members, none, order, set, values, weight, weights}
 unfoldable pub use Rattle.arena.specs.Code.{code}
-pub use Rattle.arena.specs.Code.{AllFit, CellsFit, Copied, EndsAt, FineSet, Front, Same, Stands, ValueAt, ValuesAt, codes}
+pub use Rattle.arena.specs.Code.{AllFit, CellsFit, Copied, CopiedIf, EndsAt, FineSet, Front, Same, Stands, ValueAt, ValuesAt, codes}
 pub use Rattle.sets.specs.Fronts.{Cells, RunEnds, TurnAt, TwoRuns, first_of, keep_of, rest_left, rest_right}
+pub use Rattle.sets.specs.declared.Fronts.{Fronts}
 pub use Rattle.sets.specs.declared.Turn.{Turn}
 unfoldable pub use Rattle.rules.specs.Merges.{merged, comparisons}
 pub use Rattle.rules.specs.Merges.{turned, compared_next}

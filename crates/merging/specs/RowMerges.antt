@@ -39,7 +39,11 @@ pub record RowMerge (l e r : Bool) (s₀ : List ℕ) (a m b n top : ℕ) (s : Li
   pub count_is : to ≡ top + 1 + count
   pub few : count ≤ (i - a) + (j - b)
   pub few_turns : turns ≤ (i - a) + (j - b)
-  pub walking : Walking l e r s₀ a m b n top s (record { a = i; m = a + m - i; b = j; n = b + n - j; to = to; count = count; turns = turns })
+  pub walking : Walking l e r s₀ a m b n top s (record {
+    fronts = record { a = i; m = a + m - i; b = j; n = b + n - j };
+    out = record { to = to; count = count };
+    turns = turns;
+  })
 
 -- The merge with which `merge_cells` goes on from w, whether it keeps cells of both sets or not.
 abbrev pub FrontsMerge : Bool → Bool → List ℕ → ℕ → ℕ → ℕ → ℕ → ℕ → List ℕ → Place → Type 0

@@ -1,9 +1,10 @@
 -- Walks over two sets that merge them, and what they build.
-use Rattle.std.specs.Prelude.{ℕ, ◌+◌, ◌-◌, ◌≤◌, ◌<◌, Bool, true, cond, List, [], ◌++◌, ◌⊎◌, ◌≡◌, length}
+use Rattle.std.specs.Prelude.{ℕ, ◌+◌, ◌-◌, ◌≤◌, ◌<◌, Bool, true, cond, List, [], ◌++◌, Option, ◌⊎◌, ◌≡◌, length}
 use Rattle.rules.specs.Values.{Value, Values, members, values, count, weights}
 use Rattle.rules.specs.Operations.{set_of}
 use Rattle.arena.specs.Code.{ValuesAt, SetBelow, Same, Made, Front}
 use Rattle.sets.specs.Fronts.{Cells, TwoRuns}
+use Rattle.sets.specs.declared.Fronts.{Fronts}
 use Rattle.merging.specs.declared.Out.{Out}
 use Rattle.merging.specs.declared.Walk.{Walk}
 use Rattle.merging.specs.declared.Rest.{Rest}
@@ -43,9 +44,9 @@ pub record Merging (l b r : Bool) (s : List ℕ) (top : ℕ) (w : Walk) (xs ys :
   pub left : Values
   pub right : Values
   pub done : List Value
-  pub on_left : Front s top w.a w.m left
-  pub on_right : Front s top w.b w.n right
-  pub built : BuiltTo s top w.to w.count done
+  pub on_left : Front s top w.fronts.a w.fronts.m left
+  pub on_right : Front s top w.fronts.b w.fronts.n right
+  pub built : BuiltTo s top w.out.to w.out.count done
   pub all : merged l b r xs ys ≡ done ++ merged l b r (members left) (members right)
   pub compared : comparisons xs ys ≡ w.turns + comparisons (members left) (members right)
 
@@ -55,22 +56,22 @@ pub record StepPre (l b r : Bool) (s : List ℕ) (w : Walk) : Type 0 where
   pub first : List Value
   pub second : List Value
   pub merging : Merging l b r s top w first second
-  pub room : w.to + 256 ≤ length s
-  pub near : w.to ≤ top + 256
+  pub room : w.out.to + 256 ≤ length s
+  pub near : w.out.to ≤ top + 256
   pub few : w.turns ≤ 510
-  pub more_left : 0 < w.m
-  pub more_right : 0 < w.n
+  pub more_left : 0 < w.fronts.m
+  pub more_right : 0 < w.fronts.n
 
 pub record Stepped (l b r : Bool) (s : List ℕ) (w : Walk) (s' : List ℕ) (w' : Walk) : Type 0 where
-  pub frame : Same w.to s s'
-  pub near : w'.to ≤ w.to + 256
-  pub fewer : w'.m + w'.n < w.m + w.n
+  pub frame : Same w.out.to s s'
+  pub near : w'.out.to ≤ w.out.to + 256
+  pub fewer : w'.fronts.m + w'.fronts.n < w.fronts.m + w.fronts.n
   pub on : (top : ℕ) (xs ys : List Value) → Merging l b r s top w xs ys → Merging l b r s' top w' xs ys
 
 -- What is kept of what is left at the end of a walk, in the left set or in the right.
-pub record RestOf (w : Walk) (l r : Bool) (q : Rest) : Type 0 where
-  pub left : 0 < w.m → (q.at ≡ w.a) × (q.n ≡ cond l w.m 0)
-  pub right : w.m ≡ 0 → (q.at ≡ w.b) × (q.n ≡ cond r w.n 0)
+pub record RestOf (f : Fronts) (l r : Bool) (q : Rest) : Type 0 where
+  pub left : 0 < f.m → (q.at ≡ f.a) × (q.n ≡ cond l f.m 0)
+  pub right : f.m ≡ 0 → (q.at ≡ f.b) × (q.n ≡ cond r f.n 0)
 
 -- The end of a merge: the rest is put behind what has been built, and the set's cell before it.
 pub record EndPre (l r : Bool) (s : List ℕ) (w : Walk) (top : ℕ) (cells : Bool) : Type 0 where
@@ -79,10 +80,10 @@ pub record EndPre (l r : Bool) (s : List ℕ) (w : Walk) (top : ℕ) (cells : Bo
   pub second : List Value
   pub merging : Merging l both r s top w first second
   pub room : top + 514 ≤ length s
-  pub over : (w.m ≡ 0) ⊎ ((w.n ≡ 0) ⊎ (top + 256 < w.to))
-  pub thin : cells ≡ true → Cells s w.a w.m × Cells s w.b w.n
+  pub over : (w.fronts.m ≡ 0) ⊎ ((w.fronts.n ≡ 0) ⊎ (top + 256 < w.out.to))
+  pub thin : cells ≡ true → Cells s w.fronts.a w.fronts.m × Cells s w.fronts.b w.fronts.n
 
-abbrev pub Ended : Bool → Bool → List ℕ → Walk → ℕ → List ℕ → ℕ → Type 0
+abbrev pub Ended : Bool → Bool → List ℕ → Walk → ℕ → List ℕ → Option ℕ → Type 0
 Ended l r s w top s' k = (b : Bool) (xs ys : List Value) → Merging l b r s top w xs ys → Made top s s' (set_of (merged l b r xs ys)) k
 
 -- r counts the comparisons of a merge of m members from a on and n from b on.

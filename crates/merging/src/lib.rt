@@ -8,33 +8,32 @@ ghost use Rattle.merging.specs.Walks.{PutPre, PutBehind, RestThere, StepPre, Ste
 ghost use Rattle.sets.specs.Rows.{Row};
 ghost use Rattle.merging.specs.RowMerges.{Kept, CellTurned, RowsBelow, Ahead, FrontsMerge, SomeRowMerge, RowsWalked};
 
+use sets::{Fronts, Keeps, Places};
+
 // Where the members that have been built end, and their number.
-#[derive(Drop)]
+#[derive(Clone, Copy)]
 struct Out {
     to: usize,
-    count: u64,
+    count: usize,
 }
 
 // A merge on its way: what is left of both sets, what has been built, and the comparisons made.
 #[derive(Clone, Copy)]
 struct Walk {
-    a: usize,
-    m: u64,
-    b: usize,
-    n: u64,
-    to: usize,
-    count: u64,
-    turns: u64,
+    fronts: Fronts,
+    out: Out,
+    turns: usize,
 }
 
-// Where the set that a merge has built ends, 0 where it weighs over 256, and the comparisons of the whole merge.
+// Where the set that a merge has built ends, none where it weighs over 256, and the comparisons of the whole merge.
 #[derive(Drop)]
 pub struct Pass {
-    pub end: usize,
+    pub end: Option<usize>,
     pub comparisons: u64,
 }
 
-// Where a merge of cells stands: at a in one set and at b in the other, what has been built ends at `to`, and the comparisons made.
+// Where a merge of cells stands: at a in one set and at b in the other, what has been built ends at `to`, and the comparisons made. A Walk
+// would be no plainer: its other words, the numbers of what is left and built, follow from where both rows end, and each turn would count them too.
 #[derive(Drop)]
 struct Place {
     a: usize,
@@ -47,7 +46,7 @@ struct Place {
 #[derive(Drop)]
 struct Rest {
     at: usize,
-    n: u64,
+    n: usize,
 }
 
 // A turn of a walk over two sets of cells: the lesser of the first cells, and by how many cells what is built and both sets move on.
@@ -59,153 +58,100 @@ struct CellTurn {
     right: usize,
 }
 
-// Where n members from `at` on end; members of one cell each need no walk.
-fn rest_end(s: &[u64], at: usize, n: u64, cells: bool) -> usize
+// Where n members from `at` on end; members of one cell each need no walk. A cursor over the others: they differ in length.
+fn rest_end(s: &[u64], at: usize, n: usize, cells: bool) -> usize
     requires { RestThere s.now at n cells }
     ensures { RunEnds s.now at n result }
 {
     if cells {
-        return at + n as usize;
+        return at + n;
     }
-    let mut left = n;
-    let mut i = at;
-    while left > 0 {
-        i = arena::end_of(s, i);
-        left -= 1;
+    let mut end = at;
+    for _ in 0..n {
+        end = arena::end_of(s, end);
     }
-    i
+    end
 }
 
 // Puts the run from `from` to `end`, of k members, behind what has been built, if it is kept.
-fn put(s: &mut [u64], from: usize, end: usize, k: u64, keep: bool, o: Out) -> Out
+fn put(s: &mut [u64], from: usize, end: usize, k: usize, keep: bool, o: Out) -> Out
     requires { PutPre s.old from end k o }
     ensures { PutBehind keep s.old from end k o s.new result }
 {
-    if keep {
-        let n = end - from;
-        let to = o.to;
-        arena::copy(s, from, n, to);
-        return Out {
-            to: to + n,
-            count: o.count + k,
-        };
+    let to = arena::copy_if(s, from, end, keep, o.to);
+    let more = if keep { k } else { 0 };
+    Out {
+        to,
+        count: o.count + more,
     }
-    o
 }
 
 // One turn of a merge.
-fn step(s: &mut [u64], w: Walk, left: bool, both: bool, right: bool) -> Walk
-    requires { StepPre left both right s.old w }
-    ensures { Stepped left both right s.old w s.new result }
+fn step(s: &mut [u64], w: Walk, keeps: Keeps) -> Walk
+    requires { StepPre keeps.left keeps.both keeps.right s.old w }
+    ensures { Stepped keeps.left keeps.both keeps.right s.old w s.new result }
 {
-    let t = sets::turn_at(s, w.a, w.m, w.b, w.n, left, both, right);
-    let o = put(
-        s,
-        t.from,
-        t.end,
-        1,
-        t.keep,
-        Out {
-            to: w.to,
-            count: w.count,
-        },
-    );
+    let t = sets::turn_at(s, w.fronts, keeps);
+    let out = put(s, t.from, t.end, 1, t.keep, w.out);
     Walk {
-        a: t.a,
-        m: t.m,
-        b: t.b,
-        n: t.n,
-        to: o.to,
-        count: o.count,
+        fronts: t.rest,
+        out,
         turns: w.turns + 1,
     }
 }
 
-// n if it is kept, 0 if not.
-fn if_kept(n: u64, keep: bool) -> u64
-    ensures { result ≡ cond keep n 0 }
+fn rest_of(f: Fronts, keeps: Keeps) -> Rest
+    ensures { RestOf f keeps.left keeps.right result }
 {
-    if keep {
-        return n;
+    if f.m > 0 {
+        let n = if keeps.left { f.m } else { 0 };
+        return Rest { at: f.a, n };
     }
-    0
-}
-
-fn rest_of(w: Walk, left: bool, right: bool) -> Rest
-    ensures { RestOf w left right result }
-{
-    if w.m > 0 {
-        return Rest {
-            at: w.a,
-            n: if_kept(w.m, left),
-        };
-    }
-    Rest {
-        at: w.b,
-        n: if_kept(w.n, right),
-    }
+    let n = if keeps.right { f.n } else { 0 };
+    Rest { at: f.b, n }
 }
 
 // The end of a merge: the rest of the set that is not exhausted, and the cell of the set that has been built.
-fn finish(s: &mut [u64], w: Walk, top: usize, left: bool, right: bool, cells: bool) -> usize
-    requires { EndPre left right s.old w top cells }
-    ensures { Ended left right s.old w top s.new result }
+fn finish(s: &mut [u64], w: Walk, top: usize, keeps: Keeps, cells: bool) -> Option<usize>
+    requires { EndPre keeps.left keeps.right s.old w top cells }
+    ensures { Ended keeps.left keeps.right s.old w top s.new result }
 {
     let limit = top + arena::HEAVIEST;
-    if w.to > limit {
-        return 0;
+    if w.out.to > limit {
+        return None;
     }
-    let q = rest_of(w, left, right);
+    let q = rest_of(w.fronts, keeps);
     let end = rest_end(s, q.at, q.n, cells);
-    let o = put(
-        s,
-        q.at,
-        end,
-        q.n,
-        true,
-        Out {
-            to: w.to,
-            count: w.count,
-        },
-    );
+    let o = put(s, q.at, end, q.n, true, w.out);
     if o.to > limit {
-        return 0;
+        return None;
     }
-    s[top] = arena::SET + o.count;
-    o.to
-}
-
-fn lesser(x: u64, y: u64) -> u64
-    ensures { (x ≤ y → result ≡ x) × (y < x → result ≡ y) }
-{
-    if y < x {
-        return y;
-    }
-    x
+    s[top] = arena::SET + o.count as u64;
+    Some(o.to)
 }
 
 // 1 if the lesser of the first cells x and y is kept, 0 if not.
-fn kept(x: u64, y: u64, left: bool, both: bool, right: bool) -> usize
-    ensures { Kept left both right x y result }
+fn kept(x: u64, y: u64, keeps: Keeps) -> usize
+    ensures { Kept keeps.left keeps.both keeps.right x y result }
 {
     if x < y {
-        return left as usize;
+        usize::from(keeps.left)
+    } else if y < x {
+        usize::from(keeps.right)
+    } else {
+        usize::from(keeps.both)
     }
-    if y < x {
-        return right as usize;
-    }
-    both as usize
 }
 
 // The turn at two sets of cells whose first ones are x and y, with no branch on their order.
-fn cell_turn(x: u64, y: u64, left: bool, both: bool, right: bool) -> CellTurn
-    ensures { CellTurned left both right x y result }
+fn cell_turn(x: u64, y: u64, keeps: Keeps) -> CellTurn
+    ensures { CellTurned keeps.left keeps.both keeps.right x y result }
 {
     CellTurn {
-        cell: lesser(x, y),
-        keep: kept(x, y, left, both, right),
-        left: (x <= y) as usize,
-        right: (y <= x) as usize,
+        cell: x.min(y),
+        keep: kept(x, y, keeps),
+        left: usize::from(x <= y),
+        right: usize::from(y <= x),
     }
 }
 
@@ -214,68 +160,53 @@ fn front(s: &[u64], a: usize, m: usize, b: usize, n: usize) -> usize
     requires { Row s.now a 1 m × (0 < n → b < length s.now) }
     ensures { Ahead s.now a m b n result }
 {
-    if m == 0 || n == 0 {
+    if m == 0 || n == 0 || s[a] >= s[b] {
         return 0;
     }
-    let y = s[b];
-    if s[a] < y {
-        return sets::lower_bound(s, a, 1, m, y);
-    }
-    0
+    let row = Places {
+        at: a,
+        step: 1,
+        n: m,
+    };
+    sets::lower_bound(s, row, s[b])
 }
 
-// What comes before the other set's first cell is taken or left as a whole, first of m cells from a on, then of n from b on. Each cell is a
+// What comes before the other set's first cell is taken or left as a whole, first of the left set, then of the right one. Each cell is a
 // comparison.
-fn merge_fronts(
-    s: &mut [u64],
-    a: usize,
-    m: usize,
-    b: usize,
-    n: usize,
-    top: usize,
-    left: bool,
-    right: bool,
-) -> Place
-    requires { RowsBelow s.old a m b n top }
-    ensures { FrontsMerge left right s.old a m b n top s.new result }
+fn merge_fronts(s: &mut [u64], f: Fronts, top: usize, keeps: Keeps) -> Place
+    requires { RowsBelow s.old f.a f.m f.b f.n top }
+    ensures { FrontsMerge keeps.left keeps.right s.old f.a f.m f.b f.n top s.new result }
 {
-    let p = front(s, a, m, b, n);
-    let i = a + p;
-    let q = front(s, b, n, i, m - p);
-    let j = b + q;
+    let p = front(s, f.a, f.m, f.b, f.n);
+    let a = f.a + p;
+    let q = front(s, f.b, f.n, a, f.m - p);
+    let b = f.b + q;
     let none = Out {
         to: top + 1,
         count: 0,
     };
-    let o = put(s, a, i, p as u64, left, none);
-    let o2 = put(s, b, j, q as u64, right, o);
+    let left = put(s, f.a, a, p, keeps.left, none);
+    let right = put(s, f.b, b, q, keeps.right, left);
     Place {
-        a: i,
-        b: j,
-        to: o2.to,
+        a,
+        b,
+        to: right.to,
         turns: p + q,
     }
 }
 
-// Goes on from w, cell by cell, up to the end of one of the sets. The cell of a turn is stored whether it is kept or not.
-fn walk_rows(
-    s: &mut [u64],
-    w: Place,
-    end: usize,
-    end2: usize,
-    left: bool,
-    both: bool,
-    right: bool,
-) -> Place
-    requires { SomeRowMerge left both right s.old w end end2 }
-    ensures { RowsWalked left both right s.old w end end2 s.new result }
+// Goes on from w, cell by cell, up to the end of one of the sets. The cell of a turn is stored whether it is kept or not. A `while`, as in each walk
+// over two sets: a turn moves on in one of them or in both.
+fn walk_rows(s: &mut [u64], w: Place, end: usize, end2: usize, keeps: Keeps) -> Place
+    requires { SomeRowMerge keeps.left keeps.both keeps.right s.old w end end2 }
+    ensures { RowsWalked keeps.left keeps.both keeps.right s.old w end end2 s.new result }
 {
     let mut i = w.a;
     let mut j = w.b;
     let mut to = w.to;
     let mut turns = w.turns;
     while i < end && j < end2 {
-        let t = cell_turn(s[i], s[j], left, both, right);
+        let t = cell_turn(s[i], s[j], keeps);
         s[to] = t.cell;
         to += t.keep;
         i += t.left;
@@ -285,148 +216,101 @@ fn walk_rows(
     Place {
         a: i,
         b: j,
-        to: to,
-        turns: turns,
+        to,
+        turns,
     }
 }
 
 // The same. A union keeps the cell of every turn: called with constants, it has a loop of its own, in which `to` counts the turns.
-fn walk_by_kind(
-    s: &mut [u64],
-    w: Place,
-    end: usize,
-    end2: usize,
-    left: bool,
-    both: bool,
-    right: bool,
-) -> Place
-    requires { SomeRowMerge left both right s.old w end end2 }
-    ensures { RowsWalked left both right s.old w end end2 s.new result }
+fn walk_by_kind(s: &mut [u64], w: Place, end: usize, end2: usize, keeps: Keeps) -> Place
+    requires { SomeRowMerge keeps.left keeps.both keeps.right s.old w end end2 }
+    ensures { RowsWalked keeps.left keeps.both keeps.right s.old w end end2 s.new result }
 {
-    if left && both && right {
-        return walk_rows(s, w, end, end2, true, true, true);
+    if keeps == sets::UNION {
+        return walk_rows(s, w, end, end2, sets::UNION);
     }
-    walk_rows(s, w, end, end2, left, both, right)
+    walk_rows(s, w, end, end2, keeps)
 }
 
-// Builds at top the set as `merge` does, of m cells from a on and n from b on.
-fn merge_cells(
-    s: &mut [u64],
-    a: usize,
-    m: usize,
-    b: usize,
-    n: usize,
-    top: usize,
-    left: bool,
-    both: bool,
-    right: bool,
-) -> Pass
-    requires { RowsBelow s.old a m b n top }
-    ensures { RunsMerge left both right s.old a m b n top s.new result }
+// Builds at top the set as `merge` does, of members of one cell each.
+fn merge_cells(s: &mut [u64], f: Fronts, top: usize, keeps: Keeps) -> Pass
+    requires { RowsBelow s.old f.a f.m f.b f.n top }
+    ensures { RunsMerge keeps.left keeps.both keeps.right s.old f.a f.m f.b f.n top s.new result }
 {
-    let end = a + m;
-    let end2 = b + n;
-    let w = merge_fronts(s, a, m, b, n, top, left, right);
-    let v = walk_by_kind(s, w, end, end2, left, both, right);
+    let end = f.a + f.m;
+    let end2 = f.b + f.n;
+    let w = merge_fronts(s, f, top, keeps);
+    let v = walk_by_kind(s, w, end, end2, keeps);
     let rest = Walk {
-        a: v.a,
-        m: (end - v.a) as u64,
-        b: v.b,
-        n: (end2 - v.b) as u64,
-        to: v.to,
-        count: (v.to - top - 1) as u64,
-        turns: v.turns as u64,
+        fronts: Fronts {
+            a: v.a,
+            m: end - v.a,
+            b: v.b,
+            n: end2 - v.b,
+        },
+        out: Out {
+            to: v.to,
+            count: v.to - top - 1,
+        },
+        turns: v.turns,
     };
     Pass {
-        end: finish(s, rest, top, left, right, true),
+        end: finish(s, rest, top, keeps, true),
         comparisons: v.turns as u64,
     }
 }
 
-// The comparisons of a merge of m members from a on and n from b on.
-fn comparisons(s: &[u64], a: usize, m: u64, b: usize, n: u64) -> u64
-    requires { SomeRuns s.now a m b n }
-    ensures { Compares s.now a m b n result }
+// The comparisons of a merge of what is left of two sets.
+fn comparisons(s: &[u64], fronts: Fronts) -> usize
+    requires { SomeRuns s.now fronts.a fronts.m fronts.b fronts.n }
+    ensures { Compares s.now fronts.a fronts.m fronts.b fronts.n result }
 {
-    let mut i = a;
-    let mut left = m;
-    let mut j = b;
-    let mut others = n;
-    let mut turns: u64 = 0;
-    while left > 0 && others > 0 {
-        let t = sets::turn_at(s, i, left, j, others, true, true, true);
-        i = t.a;
-        left = t.m;
-        j = t.b;
-        others = t.n;
+    let mut f = fronts;
+    let mut turns = 0;
+    while f.m > 0 && f.n > 0 {
+        f = sets::turn_at(s, f, sets::UNION).rest;
         turns += 1;
     }
     turns
 }
 
-// The same of m members from a on and n from b on, member by member. What is too heavy is built no further, and only its comparisons are counted.
-fn walk_merge(
-    s: &mut [u64],
-    a: usize,
-    m: u64,
-    b: usize,
-    n: u64,
-    top: usize,
-    left: bool,
-    both: bool,
-    right: bool,
-) -> Pass
-    requires { RunsBelow s.old a m b n top }
-    ensures { RunsMerge left both right s.old a m b n top s.new result }
+// The same as `merge_cells`, member by member. What is too heavy is built no further, and only its comparisons are counted.
+fn walk_merge(s: &mut [u64], fronts: Fronts, top: usize, keeps: Keeps) -> Pass
+    requires { RunsBelow s.old fronts.a fronts.m fronts.b fronts.n top }
+    ensures { RunsMerge keeps.left keeps.both keeps.right s.old fronts.a fronts.m fronts.b fronts.n top s.new result }
 {
     let limit = top + arena::HEAVIEST;
     let mut w = Walk {
-        a: a,
-        m: m,
-        b: b,
-        n: n,
-        to: top + 1,
-        count: 0,
+        fronts,
+        out: Out {
+            to: top + 1,
+            count: 0,
+        },
         turns: 0,
     };
-    while w.m > 0 && w.n > 0 && w.to <= limit {
-        w = step(s, w, left, both, right);
+    while w.fronts.m > 0 && w.fronts.n > 0 && w.out.to <= limit {
+        w = step(s, w, keeps);
     }
-    let more = comparisons(s, w.a, w.m, w.b, w.n);
+    let more = comparisons(s, w.fronts);
     Pass {
-        end: finish(s, w, top, left, right, false),
-        comparisons: w.turns + more,
+        end: finish(s, w, top, keeps, false),
+        comparisons: (w.turns + more) as u64,
     }
 }
 
-// Builds at top the set of the members that are only in the set at a (if left), in both (if both), only in the set at b (if right). By cells
-// where the members of both sets are one cell each.
-pub fn merge(
-    s: &mut [u64],
-    a: usize,
-    b: usize,
-    top: usize,
-    left: bool,
-    both: bool,
-    right: bool,
-) -> Pass
+// Builds at top the set of those members of the sets at a and b that are to be kept. By cells where the members of both sets are one cell each.
+pub fn merge(s: &mut [u64], a: usize, b: usize, top: usize, keeps: Keeps) -> Pass
     requires { SomeSet s.old top a × SomeSet s.old top b × (top + 514 ≤ length s.old) }
-    ensures { Merges left both right s.old a b top s.new result }
+    ensures { Merges keeps.left keeps.both keeps.right s.old a b top s.new result }
 {
-    let m = arena::low(s[a]);
-    let n = arena::low(s[b]);
+    let fronts = Fronts {
+        a: a + 1,
+        m: arena::low(s[a]) as usize,
+        b: b + 1,
+        n: arena::low(s[b]) as usize,
+    };
     if sets::of_cells(s, a) && sets::of_cells(s, b) {
-        return merge_cells(
-            s,
-            a + 1,
-            m as usize,
-            b + 1,
-            n as usize,
-            top,
-            left,
-            both,
-            right,
-        );
+        return merge_cells(s, fronts, top, keeps);
     }
-    walk_merge(s, a + 1, m, b + 1, n, top, left, both, right)
+    walk_merge(s, fronts, top, keeps)
 }

@@ -1,42 +1,16 @@
 -- A value put among the rising members that stand in the arena. The members are passed while they are less (`Finding`); what stands from the
--- place on is moved up, the last cell first (`Shifting`), and the value is copied into the gap (`inserts_put`).
-use Rattle.products.proofs.Base.{ℕ, ◌+◌, ◌-◌, ◌≤◌, ◌<◌, Bool, true, false, cond, List, [], ◌∷◌, ◌++◌, append-nil, ◌↔◌, ◌≡◌, refl, sym, ap, ◌∙◌, subst, arith, ℕ_discrete, eqb, length, get_or, set_at, length-set, get_or-set_same, get_or-set_other}
-use Rattle.parts.proofs.Terms.{Value, values, count, weight, weights, order, insert, rising, code, codes, Stands, ValueAt, Same, CellsFit, SomeAt, EndsAt, Compared, Copied, ValueBelow, StandBetween, last_of, LastAt, BuiltParts, PlaceBetween, FindPre, InsertPre, MovedLast, Out, Place}
+-- place on is moved up, and the value is copied into the gap (`inserts_put`).
+use Rattle.products.proofs.Base.{ℕ, ◌+◌, ◌-◌, ◌≤◌, ◌<◌, Bool, true, false, cond, List, [], ◌∷◌, ◌++◌, append-nil, Option, Some, ◌≡◌, refl, sym, ap, ◌∙◌, subst, arith, length}
+use Rattle.parts.proofs.Terms.{Value, values, count, weight, weights, order, insert, rising, code, codes, Stands, ValueAt, Same, CellsFit, SomeAt, EndsAt, Compared, Copied, ValueBelow, StandBetween, last_of, LastAt, BuiltParts, PlaceBetween, FindPre, InsertPre, MovedLast, Out}
+use Rattle.std.specs.declared.cmp.Ordering.{Ordering as RustOrdering}
+use Rattle.std.specs.declared.cmp.Ordering.TheVariants.{Equal, Greater}
+use Rattle.std.specs.Ordering.{is_eq, is_ge, is_le}
 use Rattle.laws.proofs.SetOrder.{Rising, insert_all}
 use Rattle.laws.proofs.CellsLaws.{weight_some}
 use Rattle.arena.proofs.CodeLaws.{length_code, length_codes, fits_small}
 use Rattle.arena.proofs.Standing.{stands_front, stands_back, stands_append, stands_frame, same_refl, same_trans, copied_stands}
-use Rattle.arena.proofs.FrontLaws.{codes_append, count_append, weights_append, code_greater}
+use Rattle.arena.proofs.FrontLaws.{codes_append, count_append, weights_append, ordering_greater}
 use Rattle.parts.proofs.PartLaws.{insert_next, insert_here, insert_none, last_append, last_split, insert_last}
-
--- `shift`: of m cells those from `left` on have been moved up by n.
-pub record Shifting (s₀ : List ℕ) (from m n : ℕ) (s : List ℕ) (left : ℕ) : Type 0 where
-  pub few : left ≤ m
-  pub there : (i : ℕ) → left ≤ i → i < m → get_or s (from + n + i) 0 ≡ get_or s₀ (from + i) 0
-  pub before : (j : ℕ) → j < from + n + left → get_or s j 0 ≡ get_or s₀ j 0
-  pub after : (j : ℕ) → from + n + m ≤ j → get_or s j 0 ≡ get_or s₀ j 0
-  pub kept : length s ≡ length s₀
-
-module _ {s₀ : List ℕ} {from m n : ℕ} {s : List ℕ} {left : ℕ} (h : Shifting s₀ from m n s left) where
-  pub shifting_next : 0 < left → from + m + n ≤ length s₀ → (at : ℕ) → at ≡ from + (left - 1) →
-      Shifting s₀ from m n (set_at s (at + n) (get_or s at 0)) (left - 1)
-  shifting_next l room at e = record {
-    few = omega (arith, h.few);
-    there = λ i p q. moved i p q (ℕ_discrete i (left - 1));
-    before = λ j p. get_or-set_other s (at + n) j (get_or s at 0) 0 (λ f. omega arith) ∙ h.before j (omega arith);
-    after = λ j p. get_or-set_other s (at + n) j (get_or s at 0) 0 (λ f. omega (arith, h.few)) ∙ h.after j p;
-    kept = length-set s (at + n) (get_or s at 0) ∙ h.kept;
-  }
-    where
-      moved : (i : ℕ) → left - 1 ≤ i → i < m → Dec (i ≡ left - 1) → get_or (set_at s (at + n) (get_or s at 0)) (from + n + i) 0 ≡ get_or s₀ (from + i) 0
-      moved i p q (yes f) =
-          let a : from + n + i ≡ at + n = omega arith in
-          let b : from + i ≡ at = omega arith in
-          rw (a, b) (get_or-set_same s (at + n) (get_or s at 0) 0 (omega (arith, h.few, h.kept)) ∙ h.before at (omega arith))
-      moved i p q (no f) = get_or-set_other s (at + n) (from + n + i) (get_or s at 0) 0 (λ g. f (omega arith)) ∙ h.there i (omega arith) q
-
-  pub shifting_end : left ≤ 0 → Copied s₀ from m (from + n) s
-  shifting_end l = record { there = λ i p. h.there i (omega arith) p; before = λ j p. h.before j (omega arith); after = h.after; kept = h.kept }
 
 -- The first of the members that stand, and those behind it.
 module _ {s : List ℕ} {i to : ℕ} {z : Value} {zs : List Value} (h : StandBetween s i to (z ∷ zs)) where
@@ -55,11 +29,11 @@ module _ {s : List ℕ} {i to : ℕ} {z : Value} {zs : List Value} (h : StandBet
 -- `find`: hi is what is left of the members; where the value is placed among them, it is placed among all.
 pub record Finding {s : List ℕ} {p end from to : ℕ} (g : FindPre s p end from to) (i : ℕ) (hi : List Value) : Type 0 where
   pub rest : StandBetween s i to hi
-  pub leads : (r : Place) → PlaceBetween g.value i hi r → PlaceBetween g.value from g.others r
+  pub leads : (at : ℕ) (equal : Bool) → PlaceBetween g.value i hi at equal → PlaceBetween g.value from g.others at equal
 
 module _ {s : List ℕ} {p end from to : ℕ} (g : FindPre s p end from to) {i : ℕ} where
-  pub finding_end : (hi : List Value) × Finding g i hi → to ≤ i → PlaceBetween g.value from g.others (record { at = to; equal = false })
-  finding_end ([], h) l = h.leads _ (record { lo = []; hi = []; all = refl; at = omega (arith, h.rest.ends); inserted = insert_none g.value })
+  pub finding_end : (hi : List Value) × Finding g i hi → to ≤ i → PlaceBetween g.value from g.others to false
+  finding_end ([], h) l = h.leads to false (record { lo = []; hi = []; all = refl; there = omega (arith, h.rest.ends); inserted = insert_none g.value })
   finding_end (z ∷ hi, h) l = absurd (omega (arith, h.rest.ends, weight_some z))
 
   pub finding_some : (hi : List Value) × Finding g i hi → i < to → SomeAt s i
@@ -70,76 +44,95 @@ module _ {s : List ℕ} {p end from to : ℕ} (g : FindPre s p end from to) {i :
   finding_on ([], h) l e ends = absurd (omega (arith, h.rest.ends))
   finding_on (z ∷ hi, h) l e ends = omega (arith, ends z (members_first h.rest) h.rest.fits.0, weight_some z)
 
-  module _ (c : ℕ) (compared : Compared s p i c) where
-    pub finding_here : (hi : List Value) × Finding g i hi → i < to → c < 2 → PlaceBetween g.value from g.others (record { at = i; equal = eqb c 1 })
-    finding_here ([], h) l k = absurd (omega (arith, h.rest.ends))
-    finding_here (z ∷ hi, h) l k =
-        let o = compared g.value z g.below.stands (members_first h.rest) g.below.fits h.rest.fits.0 in
-        h.leads _ (record { lo = []; hi = z ∷ hi; all = refl; at = omega arith; inserted = insert_here g.value z hi c o k })
+  -- The first of the members that are left is not less than the value.
+  pub finding_here : (hi : List Value) × Finding g i hi → i < to → (c : RustOrdering) → Compared s p i c → is_le c ≡ true →
+      PlaceBetween g.value from g.others i (is_eq c)
+  finding_here ([], h) l c compared k = absurd (omega (arith, h.rest.ends))
+  finding_here (z ∷ hi, h) l c compared k =
+      let o = compared g.value z g.below.stands (members_first h.rest) g.below.fits h.rest.fits.0 in
+      h.leads i (is_eq c) (record { lo = []; hi = z ∷ hi; all = refl; there = omega arith; inserted = insert_here g.value z hi c o k })
 
-    pub finding_next : (hi : List Value) × Finding g i hi → i < to → 2 ≤ c → (e : ℕ) → EndsAt s i e → (ys : List Value) × Finding g e ys
-    finding_next ([], h) l k e ends = absurd (omega (arith, h.rest.ends))
-    finding_next (z ∷ hi, h) l k e ends =
-        let m = h.rest in
-        let x = members_first m in
-        let o = compared g.value z g.below.stands x g.below.fits m.fits.0 in
-        let greater = code_greater (order g.value z) c o (λ f. omega arith) (λ f. omega arith) in
-        let placed : (r : Place) → PlaceBetween g.value e hi r → PlaceBetween g.value i (z ∷ hi) r = λ r d. record {
-          lo = z ∷ d.lo;
-          hi = d.hi;
-          all = ap (λ (l : List Value). z ∷ l) d.all;
-          at = omega (arith, d.at, ends z x m.fits.0);
-          inserted = insert_next g.value z hi greater ∙ ap (λ (l : List Value). z ∷ l) d.inserted;
-        } in
-        (hi, record { rest = members_next m e (ends z x m.fits.0); leads = λ r d. h.leads r (placed r d) })
+  -- It is less.
+  pub finding_next : (hi : List Value) × Finding g i hi → i < to → Compared s p i Greater → (e : ℕ) → EndsAt s i e → (ys : List Value) × Finding g e ys
+  finding_next ([], h) l compared e ends = absurd (omega (arith, h.rest.ends))
+  finding_next (z ∷ hi, h) l compared e ends =
+      let m = h.rest in
+      let x = members_first m in
+      let greater = ordering_greater (order g.value z) Greater (compared g.value z g.below.stands x g.below.fits m.fits.0) refl in
+      let placed : (at : ℕ) (equal : Bool) → PlaceBetween g.value e hi at equal → PlaceBetween g.value i (z ∷ hi) at equal = λ at equal d. record {
+        lo = z ∷ d.lo;
+        hi = d.hi;
+        all = ap (λ (l : List Value). z ∷ l) d.all;
+        there = omega (arith, d.there, ends z x m.fits.0);
+        inserted = insert_next g.value z hi greater ∙ ap (λ (l : List Value). z ∷ l) d.inserted;
+      } in
+      (hi, record { rest = members_next m e (ends z x m.fits.0); leads = λ at equal d. h.leads at equal (placed at equal d) })
 
 -- `place_for`: the last member stands before the end.
-last_stands : (s : List ℕ) (i to : ℕ) (z : Value) (zs : List Value) (last : ℕ) → StandBetween s i to (z ∷ zs) → LastAt last to (z ∷ zs) →
+last_at : (z : Value) (zs : List Value) {o : Option ℕ} {last to : ℕ} → o ≡ Some last → LastAt o to (z ∷ zs) → last + weight (last_of z zs) ≡ to
+last_at z zs {last = last} e (k, is, l) = let d : k ≡ last = cc in rw (← d) l
+
+last_stands : (s : List ℕ) (i to : ℕ) (z : Value) (zs : List Value) (last : ℕ) → StandBetween s i to (z ∷ zs) → last + weight (last_of z zs) ≡ to →
     ValueAt s last (last_of z zs) × CellsFit (last_of z zs)
 last_stands s i to z [] last h l =
     (subst (λ (j : ℕ). ValueAt s j z) (let e : i ≡ last = omega (arith, h.ends) in e) (members_first h), h.fits.0)
 last_stands s i to z (y ∷ ys) last h l = last_stands s (i + weight z) to y ys last (members_next h (i + weight z) refl) l
 
-last_low : (zs : List Value) {last to : ℕ} → LastAt last to zs → last ≤ to
-last_low [] l = omega arith
-last_low (z ∷ zs) l = omega arith
+last_low : (zs : List Value) {k to : ℕ} → LastAt (Some k) to zs → k ≤ to
+last_low [] l = absurd (cc)
+last_low (z ∷ zs) {k} (j, e, l) = let d : k ≡ j = cc in omega arith
 
-module _ {s : List ℕ} {p from : ℕ} {o : Out} {v : Value} (below : ValueBelow s from p v) where
-  pub place_none : (zs : List Value) → BuiltParts s from o zs → o.last ≡ 0 → PlaceBetween v from zs (record { at = o.to; equal = false })
-  place_none [] h e = record { lo = []; hi = []; all = refl; at = h.members.ends; inserted = insert_none v }
-  place_none (z ∷ zs) h e =
+module _ {s : List ℕ} {p from : ℕ} {o : Out} {v : Value} (below : ValueBelow s from p v) {last : ℕ} (is : o.last ≡ Some last) where
+  pub place_some : (zs : List Value) → BuiltParts s from o zs → SomeAt s last
+  place_some [] h = absurd (let d = h.last in cc)
+  place_some (z ∷ zs) h =
+      let x = last_stands s from o.to z zs last h.members (last_at z zs is h.last) in record { value = last_of z zs; stands = x.0; fits = x.1 }
+
+  place_compared : (z : Value) (zs : List Value) → BuiltParts s from o (z ∷ zs) → Rising (z ∷ zs) → (c : RustOrdering) → Compared s p last c → is_ge c ≡ true →
+      insert v (z ∷ zs) ≡ (z ∷ zs) ++ cond (is_eq c) [] (v ∷ [])
+  place_compared z zs h r c k g =
+      let x = last_stands s from o.to z zs last h.members (last_at z zs is h.last) in
+      insert_last v z zs r (fits_small v below.fits) (fits_small (last_of z zs) x.1) c (k v (last_of z zs) below.stands x.0 below.fits x.1) g
+
+  -- The value is the last member.
+  pub place_same : (zs : List Value) → BuiltParts s from o zs → Rising zs → Compared s p last Equal → PlaceBetween v from zs last true
+  place_same [] h r k = absurd (let d = h.last in cc)
+  place_same (z ∷ zs) h r k =
       let d = last_split z zs in
       let w = ap (λ (l : List Value). weights (values l)) d.1 ∙ weights_append d.0 (last_of z zs ∷ []) in
-      absurd (omega (arith, h.last, h.members.ends, below.below, weight_some v))
+      record {
+        lo = d.0;
+        hi = last_of z zs ∷ [];
+        all = d.1;
+        there = omega (arith, last_at z zs is h.last, h.members.ends);
+        inserted = place_compared z zs h r Equal k refl ∙ append-nil (z ∷ zs) ∙ d.1;
+      }
 
-  pub place_some : (zs : List Value) → BuiltParts s from o zs → (o.last ≡ 0 → ⊥) → SomeAt s o.last
-  place_some [] h n = absurd (n h.last)
-  place_some (z ∷ zs) h n =
-      let x = last_stands s from o.to z zs o.last h.members h.last in record { value = last_of z zs; stands = x.0; fits = x.1 }
-
-  pub place_last : (zs : List Value) → BuiltParts s from o zs → (o.last ≡ 0 → ⊥) → Rising zs → (c : ℕ) → Compared s p o.last c → 0 < c →
-      PlaceBetween v from zs (record { at = o.to; equal = eqb c 1 })
-  place_last [] h n r c k g = absurd (n h.last)
-  place_last (z ∷ zs) h n r c k g =
-      let x = last_stands s from o.to z zs o.last h.members h.last in
-      let order_is = k v (last_of z zs) below.stands x.0 below.fits x.1 in
-      let d = insert_last v z zs r (fits_small v below.fits) (fits_small (last_of z zs) x.1) c order_is g in
-      record { lo = z ∷ zs; hi = []; all = sym (append-nil (z ∷ zs)); at = h.members.ends; inserted = d }
+  -- It is greater.
+  pub place_behind : (zs : List Value) → BuiltParts s from o zs → Rising zs → Compared s p last Greater → PlaceBetween v from zs o.to false
+  place_behind [] h r k = absurd (let d = h.last in cc)
+  place_behind (z ∷ zs) h r k =
+      record { lo = z ∷ zs; hi = []; all = sym (append-nil (z ∷ zs)); there = h.members.ends; inserted = place_compared z zs h r Greater k refl }
 
 abbrev pub place_find : {s : List ℕ} {p end from : ℕ} {o : Out} → InsertPre s p end from o → FindPre s p end from o.to
 place_find h = record { value = h.value; below = h.below; ends = h.ends; others = rising h.others; members = h.built.members }
 
 -- `insert`: the last member after one more has been put.
-last_behind : (last to : ℕ) (lo : List Value) (h : Value) (hs : List Value) → LastAt last to (lo ++ (h ∷ hs)) ↔ (last + weight (last_of h hs) ≡ to)
-last_behind last to [] h hs = ((λ l. l), (λ l. l))
-last_behind last to (z ∷ lo) h hs = ((λ l. rw (last_append z lo h hs) at l), (λ l. rw (last_append z lo h hs) l))
+last_behind : (last to : ℕ) (lo : List Value) (h : Value) (hs : List Value) → last + weight (last_of h hs) ≡ to → LastAt (Some last) to (lo ++ (h ∷ hs))
+last_behind last to [] h hs l = (last, refl, l)
+last_behind last to (z ∷ lo) h hs l = (last, refl, rw (last_append z lo h hs) l)
 
-last_moved : {at to last n r : ℕ} → MovedLast at to last n r → (v : Value) (lo hi : List Value) → LastAt last to (lo ++ hi) → to ≡ at + weights (values hi) →
-    n ≡ weight v → LastAt r (to + n) (lo ++ (v ∷ hi))
-last_moved {to = to} {n = n} {r} m v lo [] l e w = (last_behind r (to + n) lo v []).1 (omega (arith, m.behind (omega arith)))
+last_found : (last : Option ℕ) (to : ℕ) (lo : List Value) (h : Value) (hs : List Value) → LastAt last to (lo ++ (h ∷ hs)) →
+    (k : ℕ) × (last ≡ Some k) × (k + weight (last_of h hs) ≡ to)
+last_found last to [] h hs l = l
+last_found last to (z ∷ lo) h hs (k, e, l) = (k, e, rw (last_append z lo h hs) at l)
+
+last_moved : {at to : ℕ} {last : Option ℕ} {n r : ℕ} → MovedLast at to last n r → (v : Value) (lo hi : List Value) → LastAt last to (lo ++ hi) →
+    to ≡ at + weights (values hi) → n ≡ weight v → LastAt (Some r) (to + n) (lo ++ (v ∷ hi))
+last_moved {to = to} {n = n} {r} m v lo [] l e w = last_behind r (to + n) lo v [] (omega (arith, m.behind (omega arith)))
 last_moved {to = to} {last} {n} {r} m v lo (h ∷ hs) l e w =
-    let z = (last_behind last to lo h hs).0 l in
-    (last_behind r (to + n) lo v (h ∷ hs)).1 (omega (arith, m.before (λ q. omega (arith, weight_some h))))
+    let (k, is, z) = last_found last to lo h hs l in
+    last_behind r (to + n) lo v (h ∷ hs) (omega (arith, m.before (λ q. omega (arith, weight_some h)) k is))
 
 -- What stands behind a copied run stays, and what is below it.
 module _ {s : List ℕ} {from n to : ℕ} {s' : List ℕ} (c : Copied s from n to s') where
@@ -165,14 +158,15 @@ module _ {s s₁ s₂ : List ℕ} {p at n m : ℕ} (shifted : Copied s at m (at 
       let back : Stands s₂ at (xs ++ hi) = stands_append s₂ at xs hi middle (rw (← size) at up) in
       stands_append s₂ from lo (xs ++ hi) low (rw place at back)
 
-module _ {s : List ℕ} {p end from : ℕ} {o : Out} (g : InsertPre s p end from o) {q : Place} (d : PlaceBetween g.value from (rising g.others) q) where
+module _ {s : List ℕ} {p end from : ℕ} {o : Out} (g : InsertPre s p end from o) {at : ℕ} {equal : Bool}
+    (d : PlaceBetween g.value from (rising g.others) at equal) where
   abbrev zs : List Value
   zs = rising g.others
 
   abbrev v : Value
   v = g.value
 
-  pub inserts_none : q.equal ≡ true → Same from s s × BuiltParts s from o (insert v zs)
+  pub inserts_none : equal ≡ true → Same from s s × BuiltParts s from o (insert v zs)
   inserts_none e =
       let z : insert v zs ≡ zs = d.inserted ∙ ap (λ (b : Bool). d.lo ++ cond b d.hi (v ∷ d.hi)) e ∙ sym d.all in
       (same_refl from s, subst (λ (l : List Value). BuiltParts s from o l) (sym z) g.built)
@@ -181,14 +175,17 @@ module _ {s : List ℕ} {p end from : ℕ} {o : Out} (g : InsertPre s p end from
   ends_here : end ≡ p + weight v
   ends_here = g.ends v g.below.stands g.below.fits
 
-  follows : o.to ≡ q.at + weights (values d.hi)
-  follows = omega (arith, d.at, g.built.members.ends, ap (λ (l : List Value). weights (values l)) d.all, weights_append d.lo d.hi)
+  follows : o.to ≡ at + weights (values d.hi)
+  follows = omega (arith, d.there, g.built.members.ends, ap (λ (l : List Value). weights (values l)) d.all, weights_append d.lo d.hi)
 
-  pub insert_near : (p ≤ end) × (end ≤ q.at) × (q.at ≤ o.to) × (o.to + (end - p) ≤ length s) × (o.last ≤ o.to)
+  pub insert_near : (p ≤ end) × (end ≤ at) × (at ≤ o.to) × (o.to + (end - p) ≤ length s)
   insert_near =
-      omega (arith, ends_here, g.below.below, d.at, follows, g.room, last_low zs g.built.last)
+      omega (arith, ends_here, g.below.below, d.there, follows, g.room)
 
-  module _ {s₁ s₂ : List ℕ} (shifted : Copied s q.at (o.to - q.at) (q.at + (end - p)) s₁) (copied : Copied s₁ p (end - p) q.at s₂) where
+  pub last_near : (k : ℕ) → o.last ≡ Some k → k ≤ o.to
+  last_near k e = last_low zs (rw e at g.built.last)
+
+  module _ {s₁ s₂ : List ℕ} (shifted : Copied s at (o.to - at) (at + (end - p)) s₁) (copied : Copied s₁ p (end - p) at s₂) where
     -- the codes of the members before the place, of the value, and of the members behind it
     put_stands : Stands s₂ from (codes (values (d.lo ++ (v ∷ d.hi))))
     unfolding code
@@ -197,24 +194,24 @@ module _ {s : List ℕ} {p end from : ℕ} {o : Out} (g : InsertPre s p end from
         let w = length_codes (values d.lo) in
         let y = ends_here in
         rw (codes_append d.lo (v ∷ d.hi))
-        (gap_stands shifted copied from (codes (values d.lo)) (code v) (codes (values d.hi)) (omega (arith, d.at)) (omega (arith, length_code v))
+        (gap_stands shifted copied from (codes (values d.lo)) (code v) (codes (values d.hi)) (omega (arith, d.there)) (omega (arith, length_code v))
         (omega (arith, follows, length_codes (values d.hi))) (omega (arith, follows, g.room)) (omega (arith, g.below.below)) g.below.stands
         (rw e at g.built.members.stands))
 
-    pub inserts_put : q.equal ≡ false → (last : ℕ) → MovedLast q.at o.to o.last (end - p) last →
-        Same from s s₂ × BuiltParts s₂ from (record { last = last; to = o.to + (end - p); count = o.count + 1 }) (insert v zs)
+    pub inserts_put : equal ≡ false → (last : ℕ) → MovedLast at o.to o.last (end - p) last →
+        Same from s s₂ × BuiltParts s₂ from (record { last = Some last; to = o.to + (end - p); count = o.count + 1 }) (insert v zs)
     inserts_put e last f =
         let b = g.built in
         let ins : insert v zs ≡ d.lo ++ (v ∷ d.hi) = d.inserted ∙ ap (λ (b : Bool). d.lo ++ cond b d.hi (v ∷ d.hi)) e in
         let old = ap (λ (l : List Value). count (values l)) d.all ∙ count_append d.lo d.hi in
         let new = ap (λ (l : List Value). count (values l)) ins ∙ count_append d.lo (v ∷ d.hi) in
         let y : end - p ≡ weight v = omega (arith, ends_here) in (
-          gap_same shifted copied from (omega (arith, d.at)),
+          gap_same shifted copied from (omega (arith, d.there)),
           record {
             members = record {
               stands = rw ins put_stands;
               fits = insert_all CellsFit v zs g.below.fits b.members.fits;
-              ends = omega (arith, follows, d.at, ap (λ (l : List Value). weights (values l)) ins, weights_append d.lo (v ∷ d.hi));
+              ends = omega (arith, follows, d.there, ap (λ (l : List Value). weights (values l)) ins, weights_append d.lo (v ∷ d.hi));
             };
             last = rw ins (last_moved f v d.lo d.hi (rw d.all at b.last) follows y);
             counted = omega (arith, b.counted, old, new);

@@ -1,7 +1,9 @@
 -- Lists of parts. `insert` passes the members that are less than its value (`insert_behind`), so the first that is not less decides, and where
 -- the value is not less than the last member, that one does (`insert_last`). `rising` does not mind the order of a list (`rising_onto`).
-use Rattle.products.proofs.Base.{ℕ, ◌+◌, ◌≤◌, ◌<◌, Ordering, Ordering·lt, Ordering·eq, Ordering·gt, cond, List, [], ◌∷◌, ◌++◌, append_assoc, inl, ◌≡◌, refl, sym, ap, ◌∙◌, subst, arith, eqb}
-use Rattle.parts.proofs.Terms.{Value, values, weight, weights, order, placed, insert, rising, order_code, last_of}
+use Rattle.products.proofs.Base.{◌+◌, ◌≤◌, Ordering, Ordering·lt, Ordering·eq, Ordering·gt, cond, List, [], ◌∷◌, ◌++◌, append_assoc, inl, ◌≡◌, refl, sym, ap, ◌∙◌, subst, arith, true}
+use Rattle.std.specs.declared.cmp.Ordering.{Ordering as RustOrdering}
+use Rattle.std.specs.Ordering.{is_eq, is_ge, is_le}
+use Rattle.parts.proofs.Terms.{Value, values, weight, weights, order, placed, insert, rising, ordering_of, last_of}
 use Rattle.laws.proofs.OrderLaws.{flip, Small, order_flip, order_eq, before_order, order_before, before_trans}
 use Rattle.laws.proofs.SetOrder.{All, Before, Rising, all_imp, rising_all_law, rising_rising}
 use Rattle.laws.proofs.Membership.{In, all_in_law, all_self, in_right, in_rising, same_members}
@@ -23,14 +25,14 @@ module _ (v w : Value) (ws : List Value) where
   unfolding insert
   insert_next e = ap (λ (o : Ordering). placed o v w ws (insert v ws)) e
 
-  pub insert_here : (c : ℕ) → c ≡ order_code (order v w) → c < 2 → insert v (w ∷ ws) ≡ cond (eqb c 1) (w ∷ ws) (v ∷ w ∷ ws)
+  pub insert_here : (c : RustOrdering) → c ≡ ordering_of (order v w) → is_le c ≡ true → insert v (w ∷ ws) ≡ cond (is_eq c) (w ∷ ws) (v ∷ w ∷ ws)
   unfolding insert
-  insert_here c e l = rw e (go (order v w) e)
+  insert_here c e l = rw e (go (order v w) (rw e at l))
     where
-      go : (o : Ordering) → c ≡ order_code o → placed o v w ws (insert v ws) ≡ cond (eqb (order_code o) 1) (w ∷ ws) (v ∷ w ∷ ws)
+      go : (o : Ordering) → is_le (ordering_of o) ≡ true → placed o v w ws (insert v ws) ≡ cond (is_eq (ordering_of o)) (w ∷ ws) (v ∷ w ∷ ws)
       go Ordering·lt q = refl
       go Ordering·eq q = refl
-      go Ordering·gt q = absurd (omega arith)
+      go Ordering·gt q = cc
 
 pub insert_none : (v : Value) → insert v [] ≡ v ∷ []
 unfolding insert
@@ -44,13 +46,13 @@ insert_behind v x (y ∷ lo) f r =
     let b = f y (all_in_law (Before y) x (lo ++ (x ∷ [])) r.0 (in_right x lo (x ∷ []) (inl refl))) in
     insert_next v y (lo ++ (x ∷ [])) (order_flip y v ∙ ap flip (before_order y v b)) ∙ ap (λ (l : List Value). y ∷ l) (insert_behind v x lo f r.1)
 
-insert_end : (v x : Value) (lo : List Value) → Rising (lo ++ (x ∷ [])) → Small v → Small x → (c : ℕ) → c ≡ order_code (order v x) → 0 < c →
-    insert v (lo ++ (x ∷ [])) ≡ (lo ++ (x ∷ [])) ++ cond (eqb c 1) [] (v ∷ [])
+insert_end : (v x : Value) (lo : List Value) → Rising (lo ++ (x ∷ [])) → Small v → Small x → (c : RustOrdering) → c ≡ ordering_of (order v x) → is_ge c ≡ true →
+    insert v (lo ++ (x ∷ [])) ≡ (lo ++ (x ∷ [])) ++ cond (is_eq c) [] (v ∷ [])
 unfolding insert
-insert_end v x lo r p q c e l = rw (append_assoc, e) (go (order v x) refl e)
+insert_end v x lo r p q c e l = rw (append_assoc, e) (go (order v x) refl (rw e at l))
   where
-    go : (o : Ordering) → order v x ≡ o → c ≡ order_code o → insert v (lo ++ (x ∷ [])) ≡ lo ++ (x ∷ cond (eqb (order_code o) 1) [] (v ∷ []))
-    go Ordering·lt d k = absurd (omega arith)
+    go : (o : Ordering) → order v x ≡ o → is_ge (ordering_of o) ≡ true → insert v (lo ++ (x ∷ [])) ≡ lo ++ (x ∷ cond (is_eq (ordering_of o)) [] (v ∷ []))
+    go Ordering·lt d k = cc
     go Ordering·eq d k = insert_behind v x lo (λ y b. subst (Before y) (sym (order_eq v x p q d)) b) r ∙ rw d
     go Ordering·gt d k = insert_behind v x lo (λ y b. before_trans y x v b (order_before x v (order_flip v x ∙ ap flip d))) r ∙ rw d
 
@@ -63,11 +65,11 @@ pub last_split : (z : Value) (zs : List Value) → (lo : List Value) × (z ∷ z
 last_split z [] = ([], refl)
 last_split z (y ∷ ys) = let r = last_split y ys in (z ∷ r.0, ap (λ (l : List Value). z ∷ l) r.1)
 
-pub insert_last : (v z : Value) (zs : List Value) → Rising (z ∷ zs) → Small v → Small (last_of z zs) → (c : ℕ) → c ≡ order_code (order v (last_of z zs)) →
-    0 < c → insert v (z ∷ zs) ≡ (z ∷ zs) ++ cond (eqb c 1) [] (v ∷ [])
+pub insert_last : (v z : Value) (zs : List Value) → Rising (z ∷ zs) → Small v → Small (last_of z zs) → (c : RustOrdering) →
+    c ≡ ordering_of (order v (last_of z zs)) → is_ge c ≡ true → insert v (z ∷ zs) ≡ (z ∷ zs) ++ cond (is_eq c) [] (v ∷ [])
 insert_last v z zs r p q c e l =
     let d = last_split z zs in
-    subst (λ (ys : List Value). insert v ys ≡ ys ++ cond (eqb c 1) [] (v ∷ [])) (sym d.1)
+    subst (λ (ys : List Value). insert v ys ≡ ys ++ cond (is_eq c) [] (v ∷ [])) (sym d.1)
     (insert_end v (last_of z zs) d.0 (subst Rising d.1 r) p q c e l)
 
 -- The values xs put before ys one by one.

@@ -1,5 +1,5 @@
 -- `parts`: the pass over the pairs of a set. What has been built is `rising` of the parts so far (`Taking`); each turn puts the part of one pair more.
-use Rattle.products.proofs.Base.{ℕ, ◌+◌, ◌-◌, ◌%◌, ◌≤◌, ◌<◌, Bool, true, false, List, [], ◌∷◌, map, ◌≡◌, refl, ap, ◌∙◌, arith, get_or, set_at}
+use Rattle.products.proofs.Base.{None, Some, ℕ, suc, ◌+◌, ◌%◌, ◌≤◌, ◌<◌, Bool, true, false, List, [], ◌∷◌, map, ◌≡◌, refl, ap, ◌∙◌, arith, get_or, set_at}
 use Rattle.parts.proofs.Terms.{Value, scalar, pair, set, Values, none, ◌▸◌, members, values, weight, weights, set_of, rising, codes, Same, SomeAt, EndsAt, ValueBelow, Made, Front, AllPairs, Appended, part, chosen, PartsPre, BuiltParts, InsertPre, Inserts, Out}
 use Rattle.laws.proofs.OrderLaws.{Small}
 use Rattle.laws.proofs.SetOrder.{all_map}
@@ -42,7 +42,7 @@ pub record Taking (b : Bool) {s₀ : List ℕ} {a top : ℕ} (g : PartsPre s₀ 
   pub built : BuiltParts s (top + 1) o (rising done)
 
 module _ {b : Bool} {s₀ : List ℕ} {a top : ℕ} (g : PartsPre s₀ a top) where
-  pub taking_start : (n : ℕ) → n ≡ get_or s₀ a 0 % 4294967296 → Taking b g s₀ n (a + 1) (record { last = 0; to = top + 1; count = 0 }) g.pairs
+  pub taking_start : (n : ℕ) → n ≡ get_or s₀ a 0 % 4294967296 → Taking b g s₀ n (a + 1) (record { last = None; to = top + 1; count = 0 }) g.pairs
   unfolding rising codes
   taking_start n low = record {
     front = front_start s₀ top a g.pairs g.whole n low;
@@ -65,7 +65,7 @@ module _ {b : Bool} {s₀ : List ℕ} {a top : ℕ} (g : PartsPre s₀ a top) wh
         (omega (arith, h.light, h.built.members.ends), omega (arith, h.light, h.built.counted, count_weights (values (rising h.done))))
 
     pub taking_end : (rest : Values) × Taking b g s left i o rest → left ≤ 0 →
-        Made top s₀ (set_at s top (21474836480 + o.count)) (set_of (rising (map (part b) (members g.pairs)))) o.to
+        Made top s₀ (set_at s top (21474836480 + o.count)) (set_of (rising (map (part b) (members g.pairs)))) (Some o.to)
     unfolding onto
     taking_end (none, h) l =
         let small = fit_small g.pairs g.whole.fine.fits.1 in
@@ -119,12 +119,13 @@ module _ {b : Bool} {s₀ : List ℕ} {a top : ℕ} (g : PartsPre s₀ a top) wh
           pub taking_insert : InsertPre s from end (top + 1) o
           taking_insert = by_pair (InsertPre s from end (top + 1) o) λ x y ws q v. insert_pre q v
 
-          pub taking_next : (s' : List ℕ) (r : Out) → Inserts s from end (top + 1) o s' r → (ws : Values) × Taking b g s' (left - 1) e r ws
+          pub taking_next : {others : ℕ} → suc others ≡ left → (s' : List ℕ) (r : Out) → Inserts s from end (top + 1) o s' r →
+              (ws : Values) × Taking b g s' others e r ws
           unfolding insert_pre rising onto
-          taking_next s' r put = by_pair ((ws : Values) × Taking b g s' (left - 1) e r ws) λ x y ws q v.
+          taking_next {others} p s' r put = by_pair ((ws : Values) × Taking b g s' others e r ws) λ x y ws q v.
               let d = put (insert_pre q v) in
-              let next : Taking b g s' (left - 1) e r ws = record {
-                front = front_next s₀ top i left (pair x y) ws q.front e (left - 1) (pair_ends v m e ends ends') (omega arith);
+              let next : Taking b g s' others e r ws = record {
+                front = front_next s₀ top i left (pair x y) ws q.front e others (pair_ends v m e ends ends') p;
                 pairs = q.pairs.1;
                 done = part b (pair x y) ∷ q.done;
                 all = q.all;

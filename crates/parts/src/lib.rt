@@ -1,93 +1,61 @@
 // The parts of the pairs of a set in the arena: domain and range.
 #![tactic(auto)]
 
-ghost use Rattle.std.specs.Prelude.{true, false, ◌≡◌, ◌+◌, ◌<◌, ◌≤◌, length};
-ghost use Rattle.arena.specs.Code.{SomeRelation, Copied};
-ghost use Rattle.parts.specs.Parts.{PartsPre, TakesParts, Domains, Ranges, chosen, FindPre, Finds, InsertPre, FindsPlace, Inserts, MovedLast};
+ghost use Rattle.std.specs.Prelude.{ℕ, ◌≡◌, ◌+◌, ◌<◌, ◌≤◌, length};
+ghost use Rattle.arena.specs.Code.{SomeRelation};
+ghost use Rattle.parts.specs.Parts.{PartsPre, TakesParts, Domains, Ranges, FindPre, Finds, InsertPre, FindsPlace, Inserts, MovedLast};
 
-// Members that have been built: where the last one stands (0 where there is none), where they end, their number.
+use std::cmp::Ordering;
+
+// Members that have been built: where the last one stands, where they end, their number.
 #[derive(Clone, Copy)]
 struct Out {
-    last: usize,
+    last: Option<usize>,
     to: usize,
     count: u64,
 }
 
-// The place of a value among rising members: where the first stands that is not less, and whether it is equal.
-#[derive(Clone, Copy)]
-struct Place {
-    at: usize,
-    equal: bool,
-}
-
-// The place of the value from p to `end` among the members from `from` to `to`.
-fn find(s: &[u64], p: usize, end: usize, from: usize, to: usize) -> Place
+// The value from p to `end` among the rising members from `from` to `to`: where it stands, or the place where it belongs, as std's searches answer.
+// A cursor over cells: members differ in length, so that no index halves them or counts them.
+fn find(s: &[u64], p: usize, end: usize, from: usize, to: usize) -> Result<usize, usize>
     requires { FindPre s.now p end from to }
     ensures { Finds s.now p end from to result }
 {
     let mut i = from;
     while i < to {
-        let c = arena::compare(s, p, end, i);
-        if c < arena::GREATER {
-            return Place {
-                at: i,
-                equal: c == arena::EQUAL,
-            };
+        match arena::compare(s, p, end, i) {
+            Ordering::Less => return Err(i),
+            Ordering::Equal => return Ok(i),
+            Ordering::Greater => i = arena::end_of(s, i),
         }
-        i = arena::end_of(s, i);
     }
-    Place {
-        at: to,
-        equal: false,
-    }
+    Err(to)
 }
 
 // The same among the members that have been built. Parts often come in rising order: the last member is looked at first.
-fn place_for(s: &[u64], p: usize, end: usize, from: usize, o: Out) -> Place
+fn place_for(s: &[u64], p: usize, end: usize, from: usize, o: Out) -> Result<usize, usize>
     requires { InsertPre s.now p end from o }
     ensures { FindsPlace s.now p end from o result }
 {
-    let to = o.to;
-    let last = o.last;
-    if last == 0 {
-        return Place {
-            at: to,
-            equal: false,
-        };
+    if let Some(last) = o.last {
+        match arena::compare(s, p, end, last) {
+            Ordering::Less => {}
+            Ordering::Equal => return Ok(last),
+            Ordering::Greater => return Err(o.to),
+        }
     }
-    let d = arena::compare(s, p, end, last);
-    if d > arena::LESS {
-        return Place {
-            at: to,
-            equal: d == arena::EQUAL,
-        };
-    }
-    find(s, p, end, from, to)
-}
-
-// Moves m cells up by n, the last one first.
-fn shift(s: &mut [u64], from: usize, m: usize, n: usize)
-    requires { from + m + n ≤ length s.old }
-    ensures { Copied s.old from m (from + n) s.new }
-{
-    let mut left = m;
-    while left > 0 {
-        left -= 1;
-        let i = from + left;
-        let x = s[i];
-        s[i + n] = x;
-    }
+    find(s, p, end, from, o.to)
 }
 
 // Where the last member stands after one of n cells has been put at `at` among members that ended at `to`.
-fn moved_last(at: usize, to: usize, last: usize, n: usize) -> usize
-    requires { last + n < 18446744073709551616 }
+fn moved_last(at: usize, to: usize, last: Option<usize>, n: usize) -> usize
+    requires { (k : ℕ) → last ≡ Some k → k + n < 18446744073709551616 }
     ensures { MovedLast at to last n result }
 {
-    if at == to {
-        return at;
+    match last {
+        Some(last) if at != to => last + n,
+        _ => at,
     }
-    last + n
 }
 
 // Puts the value from p to `end` among the rising members that have been built from `from` on, unless it is there.
@@ -95,29 +63,19 @@ fn insert(s: &mut [u64], p: usize, end: usize, from: usize, o: Out) -> Out
     requires { InsertPre s.old p end from o }
     ensures { Inserts s.old p end from o s.new result }
 {
-    let q = place_for(s, p, end, from, o);
-    if q.equal {
-        return o;
+    match place_for(s, p, end, from, o) {
+        Ok(_) => o,
+        Err(at) => {
+            let n = end - p;
+            arena::copy(s, at, o.to - at, at + n);
+            arena::copy(s, p, n, at);
+            Out {
+                last: Some(moved_last(at, o.to, o.last, n)),
+                to: o.to + n,
+                count: o.count + 1,
+            }
+        }
     }
-    let at = q.at;
-    let to = o.to;
-    let n = end - p;
-    shift(s, at, to - at, n);
-    arena::copy(s, p, n, at);
-    Out {
-        last: moved_last(at, to, o.last, n),
-        to: to + n,
-        count: o.count + 1,
-    }
-}
-
-fn pick(second: bool, a: usize, b: usize) -> usize
-    ensures { result ≡ chosen second a b }
-{
-    if second {
-        return b;
-    }
-    a
 }
 
 // The set of the first or of the second parts of the pairs of a set.
@@ -126,27 +84,25 @@ fn parts(s: &mut [u64], a: usize, top: usize, second: bool) -> usize
     ensures { TakesParts second s.old a top s.new result }
 {
     let from = top + 1;
-    let mut left = arena::low(s[a]);
     let mut i = a + 1;
     let mut o = Out {
-        last: 0,
+        last: None,
         to: from,
         count: 0,
     };
-    while left > 0 {
+    for _ in 0..arena::low(s[a]) {
         let x = i + 1;
         let y = arena::end_of(s, x);
         let e = arena::end_of(s, y);
-        let p = pick(second, x, y);
-        let end = pick(second, y, e);
+        let (p, end) = if second { (y, e) } else { (x, y) };
         o = insert(s, p, end, from, o);
         i = e;
-        left -= 1;
     }
     s[top] = arena::SET + o.count;
     o.to
 }
 
+// Domain and range: a constant apart, but both are named in docs/READING.md, and `side` of operations asks for one or the other.
 pub fn domain(s: &mut [u64], a: usize, top: usize) -> usize
     requires { SomeRelation s.old top a × (top + 514 ≤ length s.old) }
     ensures { Domains s.old a top s.new result }

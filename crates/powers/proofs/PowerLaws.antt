@@ -1,13 +1,14 @@
 -- The power set in the arena: subsets by masks, one behind the other.
-use Rattle.products.proofs.Base.{ℕ, ◌+◌, ◌*◌, ◌/◌, ◌≤◌, ◌<◌, List, [], ◌∷◌, ◌++◌, map, ◌≡◌, refl, sym, ap, ◌∙◌, subst, arith, dec_lt, add-one, ltb, length, get_or, drop, drop_of_length-le, set_at, drop-cons}
+use Rattle.products.proofs.Base.{ℕ, ◌+◌, ◌*◌, ◌/◌, ◌≤◌, ◌<◌, List, [], ◌∷◌, ◌++◌, map, Some, None, ◌≡◌, refl, sym, ap, ◌∙◌, subst, arith, dec_lt, add-one, ltb, lt-ltb, le-ltb, length, get_or, take, drop, drop_of_length-le, set_at, drop-cons}
 use Rattle.powers.proofs.Terms.{Value, Values, none, ◌▸◌, members, values, count, weights, set_of, rising, subsets, kept_value, code, codes, SetBelow, Made, Appended, Grown, SizeIs, Size, masks, CountsSubsets, subset_counts, subset_for, picked, MarkPre, Marks, SubsetPre, Subsets, AllPre, AllSubsets}
+use Rattle.std.proofs.lemmas.List.{length-take-le}
 use Rattle.laws.proofs.SetOrder.{all_at}
 use Rattle.laws.proofs.CellsLaws.{count_weights}
 use Rattle.laws.proofs.Membership.{values_members}
 use Rattle.arena.proofs.CodeLaws.{length_codes}
-use Rattle.arena.proofs.FrontLaws.{rises_rising, fit_small}
-use Rattle.products.proofs.GrowLaws.{grown_step, grown_end, grown_left, made_set, made_heavy}
-use Rattle.powers.proofs.SubsetLaws.{stand_frame, kept_codes}
+use Rattle.arena.proofs.FrontLaws.{single, rises_rising, fit_small}
+use Rattle.products.proofs.GrowLaws.{appended_none, grown_step, grown_end, grown_left, made_set, made_heavy}
+use Rattle.powers.proofs.SubsetLaws.{stand_frame, stand_take, kept_codes}
 use Rattle.powers.proofs.PowerOrder.{powers, power_rising, power_few, power_heavy}
 
 -- `subset_count`
@@ -29,9 +30,9 @@ picked_next p j mask vs l e =
     ap (λ (ms : List ℕ). codes (values (picked p ms (members vs)))) d
     ∙ kept_codes (ltb mask p) (set_of (subset_for mask (members vs))) (picked p (drop (j + 1) masks) (members vs))
 
-module _ {s₀ at : List ℕ} {n p to : ℕ} (g : AllPre s₀ at n p to) {s : List ℕ} (j : ℕ) {end : ℕ}
+module _ {s₀ at : List ℕ} {p to : ℕ} (g : AllPre s₀ at p to) {s : List ℕ} (j : ℕ) {end : ℕ}
     (h : Grown s₀ to s end (all_from p 0 g.whole) (all_from p j g.whole)) where
-  pub all_pre : SubsetPre s at n end
+  pub all_pre : SubsetPre s at end
   all_pre =
       let m = g.marked in
       record {
@@ -47,12 +48,22 @@ module _ {s₀ at : List ℕ} {n p to : ℕ} (g : AllPre s₀ at n p to) {s : Li
         room = omega (arith, grown_left h, length_codes (values (picked p masks (members g.whole))), g.light, g.room, h.appended.frame.kept);
       }
 
-  pub all_next : (mask : ℕ) (s' : List ℕ) (r : ℕ) → j < 32 → mask ≡ get_or masks j 0 → Subsets s at n mask p end s' r →
+  -- the subset for the next mask is put behind the others, if the mask is below p
+  pub all_next : (mask : ℕ) (s' : List ℕ) (r : ℕ) → j < 32 → mask ≡ get_or masks j 0 →
+      Appended s end s' r (codes (values (kept_value (ltb mask p) (set_of (subset_for mask (members g.whole))) []))) →
       Grown s₀ to s' r (all_from p 0 g.whole) (all_from p (j + 1) g.whole)
-  unfolding all_pre
   all_next mask s' r l e put =
       grown_step (all_from p (j + 1) g.whole)
-      (subst (λ (c : List ℕ). Grown s₀ to s end (all_from p 0 g.whole) c) (picked_next p j mask g.whole l e) h) (put all_pre)
+      (subst (λ (c : List ℕ). Grown s₀ to s end (all_from p 0 g.whole) c) (picked_next p j mask g.whole l e) h) put
+
+  pub all_put : {mask : ℕ} {s' : List ℕ} {r : ℕ} → mask < p → Subsets s at mask end s' r →
+      Appended s end s' r (codes (values (kept_value (ltb mask p) (set_of (subset_for mask (members g.whole))) [])))
+  unfolding all_pre
+  all_put {mask} l put = rw (lt-ltb mask p l, single (set_of (subset_for mask (members g.whole)))) (put all_pre)
+
+  pub all_passed : {mask : ℕ} → p ≤ mask → Appended s end s end (codes (values (kept_value (ltb mask p) (set_of (subset_for mask (members g.whole))) [])))
+  unfolding code
+  all_passed {mask} l = rw (le-ltb mask p l) (appended_none s end (omega (arith, h.appended.ends, h.appended.stands.inside)))
 
   pub all_end : 32 ≤ j → Appended s₀ to s end (codes (values (picked p masks (members g.whole))))
   unfolding picked code
@@ -81,7 +92,7 @@ module _ {s : List ℕ} {a top : ℕ} {x : Size} {p : ℕ} (size : SizeIs s a x)
       let w : weights (values (members vs)) ≡ x.cells = ap weights (values_members vs) ∙ sym (size.cells top vs h) in
       rw (power_is, ← e, ← w) (power_few (members vs) (omega (arith, power_members)))
 
-  pub power_too_heavy : 256 < 1 + p + p / 2 * x.cells → Made top s s (set_of subsets_of) 0
+  pub power_too_heavy : 256 < 1 + p + p / 2 * x.cells → Made top s s (set_of subsets_of) None
   power_too_heavy g = made_heavy (go (dec_lt 5 x.members))
     where
       go : Dec (5 < x.members) → 256 < 1 + weights (values subsets_of)
@@ -99,21 +110,28 @@ module _ {s : List ℕ} {a top : ℕ} {x : Size} {p : ℕ} (size : SizeIs s a x)
             let y : 1 + 64 + 64 / 2 * x.cells ≤ 256 = rw z at light in
             absurd (omega (arith, size.cells top vs h, (size.front top vs h).counted, count_weights vs))
 
-    module _ (room : top + 514 ≤ length s) {at : List ℕ} (marks : Marks s (a + 1) x.members at) where
-      pub power_pre : AllPre s at x.members p (top + 1)
+    module _ (room : top + 514 ≤ length s) (at : List ℕ) (sized : length at ≡ 6) (marks : Marks s (a + 1) x.members at) where
+      pub power_pre : AllPre s (take (x.members + 1) at) p (top + 1)
       unfolding power_mark
       power_pre =
           let f = size.front top vs h in
           let q = few_power power_mark.few in
           record {
             whole = vs;
-            marked = record { top = top; each = marks power_mark; counted = f.counted; light = f.light; behind = omega arith };
-            few = power_mark.few;
+            marked = record {
+              top = top;
+              each = stand_take s at top 0 (x.members + 1) vs (omega (arith, f.counted)) (marks power_mark);
+              counted = length-take-le (x.members + 1) at (omega (arith, power_mark.few)) ∙ omega (arith, f.counted);
+              light = f.light;
+              behind = omega arith;
+            };
+            few = omega (arith, f.counted, power_mark.few);
             light = omega (arith, q.0, ap (λ (l : List Value). weights (values l)) q.2);
             room = omega arith;
           }
 
-      pub power_made : (s' : List ℕ) (r : ℕ) → AllSubsets s at x.members p (top + 1) s' r → Made top s (set_at s' top (21474836480 + p)) (set_of subsets_of) r
+      pub power_made : (s' : List ℕ) (r : ℕ) → AllSubsets s (take (x.members + 1) at) p (top + 1) s' r →
+          Made top s (set_at s' top (21474836480 + p)) (set_of subsets_of) (Some r)
       unfolding power_pre
       power_made s' r put =
           let q = few_power power_mark.few in

@@ -1,17 +1,26 @@
 -- Subsets in the arena: where the members begin is found once (`Marking`); the members whose bits a mask has are copied one behind the other
 -- (`SubsetAt`). In both rest is what is left of the members.
-use Rattle.products.proofs.Base.{ℕ, ◌+◌, ◌-◌, ◌/◌, ◌%◌, ◌≤◌, ◌<◌, Bool, true, false, cond, List, [], ◌++◌, append-nil, ◌≡◌, refl, ◌∙◌, subst, arith, lt-ltb, le-ltb, eqb, ltb, length, get_or, set_at, length-set, get_or-set_same, get_or-set_other}
-use Rattle.powers.proofs.Terms.{Value, Values, none, ◌▸◌, members, values, count, weight, weights, set_of, kept_value, code, codes, Same, EndsAt, Copied, Front, Appended, Grown, subset_for, AddPre, Added, StandAt, MarkPre, SubsetPre, Subsets, Out}
+use Rattle.products.proofs.Base.{ℕ, ◌+◌, ◌-◌, ◌/◌, ◌%◌, ◌≤◌, ◌<◌, Bool, true, false, bool_byte, cond, List, [], ◌++◌, append-nil, ◌≡◌, refl, ◌∙◌, subst, arith, eqb, length, get_or, take, set_at, length-set, get_or-set_same, get_or-set_other}
+use Rattle.powers.proofs.Terms.{Value, Values, none, ◌▸◌, members, values, count, weight, weights, set_of, kept_value, code, codes, Same, EndsAt, CopiedIf, CopyIfReady, ValueAt, Front, Appended, Grown, subset_for, StandAt, MarkPre, SubsetPre}
+use Rattle.std.proofs.lemmas.List.{get_or-take}
 use Rattle.laws.proofs.CellsLaws.{count_weights}
-use Rattle.arena.proofs.CodeLaws.{length_code, length_codes}
+use Rattle.arena.proofs.CodeLaws.{length_code}
 use Rattle.arena.proofs.FrontLaws.{single, front_value, front_next, front_below, value_frame}
-use Rattle.products.proofs.GrowLaws.{appended_none, appended_copy, grown_start, grown_step, grown_end, grown_left, appended_set}
+use Rattle.products.proofs.GrowLaws.{appended_none, appended_copy, grown_start, grown_step, grown_end, appended_set}
 
 -- What stands below a frame stays.
 pub stand_frame : (k : ℕ) (s s' at : List ℕ) (top j : ℕ) (vs : Values) → Same k s s' → top ≤ k → StandAt s at top j vs → StandAt s' at top j vs
 stand_frame k s s' at top j none f l h = tt
 stand_frame k s s' at top j (v ▸ vs) f l h =
     (value_frame k s s' top (get_or at j 0) v f l h.0, h.1, stand_frame k s s' at top (j + 1) vs f l h.2)
+
+-- They stand at the first of the places, as many as they are and where the last one ends.
+pub stand_take : (s at : List ℕ) (top j k : ℕ) (vs : Values) → j + count vs < k → StandAt s at top j vs → StandAt s (take k at) top j vs
+stand_take s at top j k none l h = tt
+stand_take s at top j k (v ▸ vs) l h =
+    let e = get_or-take k at j 0 (omega arith) in
+    let e' = get_or-take k at (j + 1) 0 (omega arith) in
+    (rw e h.0, rw (e, e') h.1, stand_take s at top (j + 1) k vs (omega arith) h.2)
 
 -- `marks`: j members have been passed; what the list says from its place j on decides.
 pub record Marking {s : List ℕ} {a n : ℕ} (g : MarkPre s a n) (at : List ℕ) (j : ℕ) (rest : Values) : Type 0 where
@@ -59,93 +68,87 @@ unfolding code
 kept_codes true v r = rw (append-nil (code v))
 kept_codes false v r = refl
 
-kept_sizes : (k : Bool) (v : Value) (r : List Value) (n : ℕ) → n ≡ weight v →
-    (count (values (kept_value k v r)) ≡ cond k 1 0 + count (values r)) × (weights (values (kept_value k v r)) ≡ cond k n 0 + weights (values r))
-kept_sizes true v r n e = omega arith
-kept_sizes false v r n e = omega arith
+kept_sizes : (k : Bool) (v : Value) (r : List Value) →
+    (count (values (kept_value k v r)) ≡ bool_byte k + count (values r)) × (weights (values (kept_value k v r)) ≤ weight v + weights (values r))
+kept_sizes true v r = omega arith
+kept_sizes false v r = omega arith
 
--- `add_if`
-module _ {keep : Bool} {s : List ℕ} {from end : ℕ} {o : Out} (p : AddPre keep s from end o) where
-  pub add_room : keep ≡ true → o.to + (end - from) ≤ length s
-  add_room e = rw e at p.room
+pub byte_most : (k : Bool) → bool_byte k ≤ 1
+byte_most true = omega arith
+byte_most false = omega arith
 
-  pub add_made : {s' : List ℕ} → keep ≡ true → Copied s from (end - from) o.to s' →
-      Added keep s from end o s' (record { to = o.to + (end - from); count = o.count + 1 })
-  add_made e c =
-      rw e (record { cells = λ v h z. rw (single v) (appended_copy c h (omega (arith, length_code v)) (add_room e)); counted = refl })
+kept_most : (k : Bool) (n : ℕ) → cond k n 0 ≤ n
+kept_most true n = omega arith
+kept_most false n = omega arith
 
-  pub add_none : keep ≡ false → Added keep s from end o s o
-  unfolding code
-  add_none e = rw e (record { cells = λ v h z. appended_none s o.to (omega (arith, p.room)); counted = omega arith })
+-- A member that is copied if it is kept.
+kept_appended : (keep : Bool) {s : List ℕ} {from end to : ℕ} {s' : List ℕ} {r : ℕ} → CopiedIf s from end keep to s' r → (v : Value) → ValueAt s from v →
+    end ≡ from + weight v → to + (end - from) ≤ length s → Appended s to s' r (codes (values (kept_value keep v [])))
+unfolding code
+kept_appended true c v h e l = rw (c.ends, single v) (appended_copy (c.kept refl) h (omega (arith, length_code v)) l)
+kept_appended false {s} {to = to} c v h e l = rw (c.left refl, c.ends, let z : to + 0 ≡ to = omega arith in z) (appended_none s to (omega arith))
 
 -- `subset`: j members have been passed, and m has the bits of those that are left.
 pick_weighs : (m : ℕ) (vs : Values) → weights (values (subset_for m (members vs))) ≤ weights vs
 unfolding subset_for
 pick_weighs m none = omega arith
-pick_weighs m (v ▸ vs) = go (eqb (m % 2) 1) (subset_for (m / 2) (members vs)) (pick_weighs (m / 2) vs)
-  where
-    go : (k : Bool) (r : List Value) → weights (values r) ≤ weights vs → weights (values (kept_value k v r)) ≤ weight v + weights vs
-    go true r l = omega arith
-    go false r l = omega arith
+pick_weighs m (v ▸ vs) = omega (arith, (kept_sizes (eqb (m % 2) 1) v (subset_for (m / 2) (members vs))).1, pick_weighs (m / 2) vs)
 
-module _ {s₀ at : List ℕ} {n to : ℕ} (g : SubsetPre s₀ at n to) (mask : ℕ) where
+module _ {s₀ at : List ℕ} {to : ℕ} (g : SubsetPre s₀ at to) (mask : ℕ) where
   abbrev whole : List Value
   whole = subset_for mask (members g.whole)
 
   light : weights (values whole) ≤ 255
   light = omega (arith, pick_weighs mask g.whole, g.marked.light)
 
-  pub record SubsetAt (s : List ℕ) (j m : ℕ) (o : Out) (rest : Values) : Type 0 where
-    pub left : n ≡ j + count rest
+  pub record SubsetAt (s : List ℕ) (j m end counted : ℕ) (rest : Values) : Type 0 where
+    pub left : length at ≡ j + count rest + 1
     pub each : StandAt s₀ at g.marked.top j rest
-    pub grown : Grown s₀ (to + 1) s o.to (codes (values whole)) (codes (values (subset_for m (members rest))))
-    pub counted : o.count + count (values (subset_for m (members rest))) ≡ count (values whole)
+    pub grown : Grown s₀ (to + 1) s end (codes (values whole)) (codes (values (subset_for m (members rest))))
+    pub known : counted + count (values (subset_for m (members rest))) ≡ count (values whole)
+    pub room : end + weights rest ≤ to + 1 + weights g.whole
 
-  pub subset_start : SubsetAt s₀ 0 mask (record { to = to + 1; count = 0 }) g.whole
+  pub subset_start : SubsetAt s₀ 0 mask (to + 1) 0 g.whole
   subset_start = record {
     left = omega (arith, g.marked.counted);
     each = g.marked.each;
     grown = grown_start s₀ (to + 1) (codes (values whole)) (omega (arith, g.room));
-    counted = omega arith;
+    known = omega arith;
+    room = omega arith;
   }
 
-  module _ {s : List ℕ} {j m : ℕ} {o : Out} where
-    pub subset_few : (rest : Values) × SubsetAt s j m o rest → o.count ≤ 255
-    subset_few (rest, h) = omega (arith, h.counted, light, count_weights (values whole))
+  module _ {s : List ℕ} {j m end counted : ℕ} where
+    pub subset_few : (rest : Values) × SubsetAt s j m end counted rest → counted ≤ 255
+    subset_few (rest, h) = omega (arith, h.known, light, count_weights (values whole))
 
-    pub subset_end : {p : ℕ} → (rest : Values) × SubsetAt s j m o rest → n ≤ j → mask < p →
-        Appended s₀ to (set_at s to (21474836480 + o.count)) o.to (codes (values (kept_value (ltb mask p) (set_of whole) [])))
+    pub subset_end : (rest : Values) × SubsetAt s j m end counted rest → length at ≤ j + 1 →
+        Appended s₀ to (set_at s to (21474836480 + counted)) end (code (set_of whole))
     unfolding subset_for code
-    subset_end {p} (none, h) l b =
-        rw (lt-ltb mask p b, single (set_of whole)) (appended_set (values whole) (grown_end h.grown) (omega (arith, h.counted)) (omega (arith, g.room)))
-    subset_end (w ▸ ws, h) l b = absurd (omega (arith, h.left))
+    subset_end (none, h) l = appended_set (values whole) (grown_end h.grown) (omega (arith, h.known)) (omega (arith, g.room))
+    subset_end (w ▸ ws, h) l = absurd (omega (arith, h.left))
 
-    pub subset_add : (rest : Values) × SubsetAt s j m o rest → j < n → AddPre (eqb (m % 2) 1) s (get_or at j 0) (get_or at (j + 1) 0) o
-    unfolding subset_for
-    subset_add (none, h) l = absurd (omega (arith, h.left))
-    subset_add (w ▸ ws, h) l =
-        let more = subset_for (m / 2) (members ws) in
-        let size : get_or at (j + 1) 0 - get_or at j 0 ≡ weight w = omega (arith, h.each.1) in
-        let z = length_codes (values (kept_value (eqb (m % 2) 1) w more)) ∙ (kept_sizes (eqb (m % 2) 1) w more (get_or at (j + 1) 0 - get_or at j 0) size).1 in
+    pub subset_copy : (rest : Values) × SubsetAt s j m end counted rest → j + 1 < length at → CopyIfReady s (get_or at j 0) (get_or at (j + 1) 0) end
+    subset_copy (none, h) l = absurd (omega (arith, h.left))
+    subset_copy (w ▸ ws, h) l =
         let a = h.grown.appended in
-        let y = length_codes (values whole) in
-        omega (arith, h.each.0, h.each.1, g.marked, g.room, a.ends, a.frame.kept, grown_left h.grown, light, subset_few (w ▸ ws, h))
+        omega (arith, h.each.0, h.each.1, g.marked, g.room, a.ends, a.frame.kept, h.room)
 
-    pub subset_next : (rest : Values) × SubsetAt s j m o rest → j < n → (s' : List ℕ) (r : Out) →
-        Added (eqb (m % 2) 1) s (get_or at j 0) (get_or at (j + 1) 0) o s' r → (ws : Values) × SubsetAt s' (j + 1) (m / 2) r ws
+    pub subset_next : (rest : Values) × SubsetAt s j m end counted rest → j + 1 < length at → {s' : List ℕ} {r : ℕ} →
+        CopiedIf s (get_or at j 0) (get_or at (j + 1) 0) (eqb (m % 2) 1) end s' r →
+        (ws : Values) × SubsetAt s' (j + 1) (m / 2) r (counted + bool_byte (eqb (m % 2) 1)) ws
     unfolding subset_for
-    subset_next (none, h) l s' r d = absurd (omega (arith, h.left))
-    subset_next (w ▸ ws, h) l s' r d =
+    subset_next (none, h) l d = absurd (omega (arith, h.left))
+    subset_next (w ▸ ws, h) l {s'} {r} d =
+        let keep = eqb (m % 2) 1 in
         let more = subset_for (m / 2) (members ws) in
         let there = value_frame (to + 1) s₀ s g.marked.top (get_or at j 0) w h.grown.appended.frame (omega (arith, g.marked.behind)) h.each.0 in
-        let next : SubsetAt s' (j + 1) (m / 2) r ws = record {
+        let ready = subset_copy (w ▸ ws, h) l in
+        let put = kept_appended keep d w there.stands h.each.1 ready.room in
+        let next : SubsetAt s' (j + 1) (m / 2) r (counted + bool_byte keep) ws = record {
           left = omega (arith, h.left);
           each = h.each.2;
-          grown = grown_step (codes (values more)) (rw (kept_codes (eqb (m % 2) 1) w more) at h.grown) (d.cells w there.stands h.each.1);
-          counted = omega (arith, d.counted, h.counted, (kept_sizes (eqb (m % 2) 1) w more (weight w) refl).0);
+          grown = grown_step (codes (values more)) (rw (kept_codes keep w more) at h.grown) put;
+          known = omega (arith, h.known, (kept_sizes keep w more).0);
+          room = omega (arith, h.room, h.each.1, d.ends, kept_most keep (get_or at (j + 1) 0 - get_or at j 0));
         } in
         (ws, next)
-
-pub subset_none : {s at : List ℕ} {n mask p to : ℕ} → p ≤ mask → Subsets s at n mask p to s to
-unfolding code
-subset_none {s} {mask = mask} {p} {to} l g = rw (le-ltb mask p l) (appended_none s to (omega (arith, g.room)))

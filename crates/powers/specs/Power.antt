@@ -1,12 +1,11 @@
 -- The power set of a set of at most five members: its subsets as bits.
-use Rattle.std.specs.Prelude.{ℕ, ◌+◌, ◌-◌, ◌/◌, ◌%◌, ◌≤◌, ◌<◌, Bool, cond, List, [], ◌∷◌, map, ◌≡◌, eqb, ltb, length, get_or}
+use Rattle.std.specs.Prelude.{ℕ, ◌+◌, ◌/◌, ◌%◌, ◌≤◌, ◌<◌, List, [], ◌∷◌, map, Option, ◌≡◌, eqb, ltb, length, get_or}
 use Rattle.rules.specs.Values.{Value, Values, none, ◌▸◌, members, values, count, weight, weights}
 use Rattle.rules.specs.Operations.{set_of, rising, subsets, kept_value}
-use Rattle.arena.specs.Code.{codes, ValueAt, SetBelow, ValueBelow, Made, Front}
+use Rattle.arena.specs.Code.{code, codes, SetBelow, ValueBelow, Made, Front}
 use Rattle.products.specs.Growing.{Appended}
-use Rattle.powers.specs.declared.Out.{Out}
 
-abbrev pub Powers : List ℕ → ℕ → ℕ → List ℕ → ℕ → Type 0
+abbrev pub Powers : List ℕ → ℕ → ℕ → List ℕ → Option ℕ → Type 0
 Powers s a top s' r = (vs : Values) → SetBelow s top a vs → Made top s s' (set_of (rising (map set_of (subsets (members vs))))) r
 
 -- Bit i stands for member i: fewer bits first, then by the greatest members that differ.
@@ -33,17 +32,6 @@ unfolding subset_for
 picked p [] vs = []
 picked p (m ∷ ms) vs = kept_value (ltb m p) (set_of (subset_for m vs)) (picked p ms vs)
 
--- A run copied behind what has been built, as its next member, if it is kept.
-pub record AddPre (keep : Bool) (s : List ℕ) (from end : ℕ) (o : Out) : Type 0 where
-  pub forward : from ≤ end
-  pub behind : end ≤ o.to
-  pub room : o.to + cond keep (end - from) 0 ≤ length s
-  pub few : o.count ≤ 256
-
-pub record Added (keep : Bool) (s : List ℕ) (from end : ℕ) (o : Out) (s' : List ℕ) (r : Out) : Type 0 where
-  pub cells : (v : Value) → ValueAt s from v → end ≡ from + weight v → Appended s o.to s' r.to (codes (values (kept_value keep v [])))
-  pub counted : r.count ≡ o.count + cond keep 1 0
-
 -- The members vs stand below `top` at the places in the list `at`, from its place j on; each ends where the next begins.
 abbrev pub StandAt : List ℕ → List ℕ → ℕ → ℕ → Values → Type 0
 StandAt s at top j none = Unit {0}
@@ -58,33 +46,32 @@ pub record MarkPre (s : List ℕ) (a n : ℕ) : Type 0 where
 abbrev pub Marks : List ℕ → ℕ → ℕ → List ℕ → Type 0
 Marks s a n at = (g : MarkPre s a n) → StandAt s at g.top 0 g.whole
 
--- n members stand at the places in `at`, below `to`.
-pub record Marked (s at : List ℕ) (n to : ℕ) (vs : Values) : Type 0 where
+-- The members vs stand at the places in `at`, below `to`.
+pub record Marked (s at : List ℕ) (to : ℕ) (vs : Values) : Type 0 where
   pub top : ℕ
   pub each : StandAt s at top 0 vs
-  pub counted : n ≡ count vs
+  pub counted : length at ≡ count vs + 1
   pub light : weights vs ≤ 255
   pub behind : top ≤ to
 
 -- At most five, and room for a subset.
-pub record SubsetPre (s at : List ℕ) (n to : ℕ) : Type 0 where
+pub record SubsetPre (s at : List ℕ) (to : ℕ) : Type 0 where
   pub whole : Values
-  pub marked : Marked s at n to whole
-  pub few : n ≤ 5
+  pub marked : Marked s at to whole
+  pub few : count whole ≤ 5
   pub room : to + 257 ≤ length s
 
--- The subset for a mask if the mask is below p.
-abbrev pub Subsets : List ℕ → List ℕ → ℕ → ℕ → ℕ → ℕ → List ℕ → ℕ → Type 0
-Subsets s at n mask p to s' r =
-    (g : SubsetPre s at n to) → Appended s to s' r (codes (values (kept_value (ltb mask p) (set_of (subset_for mask (members g.whole))) [])))
+-- The subset for a mask.
+abbrev pub Subsets : List ℕ → List ℕ → ℕ → ℕ → List ℕ → ℕ → Type 0
+Subsets s at mask to s' r = (g : SubsetPre s at to) → Appended s to s' r (code (set_of (subset_for mask (members g.whole))))
 
 -- All subsets for the masks below p.
-pub record AllPre (s at : List ℕ) (n p to : ℕ) : Type 0 where
+pub record AllPre (s at : List ℕ) (p to : ℕ) : Type 0 where
   pub whole : Values
-  pub marked : Marked s at n to whole
-  pub few : n ≤ 5
+  pub marked : Marked s at to whole
+  pub few : count whole ≤ 5
   pub light : weights (values (picked p masks (members whole))) ≤ 255
   pub room : to + 512 ≤ length s
 
-abbrev pub AllSubsets : List ℕ → List ℕ → ℕ → ℕ → ℕ → List ℕ → ℕ → Type 0
-AllSubsets s at n p to s' r = (g : AllPre s at n p to) → Appended s to s' r (codes (values (picked p masks (members g.whole))))
+abbrev pub AllSubsets : List ℕ → List ℕ → ℕ → ℕ → List ℕ → ℕ → Type 0
+AllSubsets s at p to s' r = (g : AllPre s at p to) → Appended s to s' r (codes (values (picked p masks (members g.whole))))

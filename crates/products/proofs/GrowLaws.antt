@@ -1,5 +1,5 @@
 -- Cells written one behind the other, and the values that they are.
-use Rattle.products.proofs.Base.{get_or, ℕ, zero, suc, ◌+◌, ◌-◌, ◌≤◌, ◌<◌, List, [], ◌∷◌, ◌++◌, append_assoc, append-nil, ◌≡◌, refl, sym, ap, ◌∙◌, subst, arith, add-one, length, set_at, length-append, length-set, get_or-set_same, get_or-set_other}
+use Rattle.products.proofs.Base.{get_or, ℕ, zero, suc, ◌+◌, ◌-◌, ◌≤◌, ◌<◌, List, [], ◌∷◌, ◌++◌, append_assoc, append-nil, Some, None, ◌≡◌, refl, sym, ap, ◌∙◌, subst, arith, add-one, length, set_at, length-append, length-set, get_or-set_same, get_or-set_other}
 use Rattle.products.proofs.Terms.{Value, pair, set, Values, none, ◌▸◌, count, weight, set_of, code, codes, Stands, EndsAt, Copied, ValueBelow, Made, Appended, Grown, cells_from, RunPre, PairPre, PairPut}
 use Rattle.arena.proofs.CodeLaws.{length_code, length_codes}
 use Rattle.arena.proofs.Standing.{stands_append, stands_frame, same_refl, same_trans, copied_stands}
@@ -63,11 +63,11 @@ module _ {s : List ℕ} {to : ℕ} {s' : List ℕ} {r : ℕ} {whole : List ℕ} 
   grown_left {rest} g = omega (arith, g.appended.ends, ap length g.all, length-append g.done rest)
 
 -- A value that has been written at top.
-pub made : {s : List ℕ} {top : ℕ} {s' : List ℕ} {r : ℕ} {v : Value} → Appended s top s' r (code v) → weight v ≤ 256 → Made top s s' v r
+pub made : {s : List ℕ} {top : ℕ} {s' : List ℕ} {r : ℕ} {v : Value} → Appended s top s' r (code v) → weight v ≤ 256 → Made top s s' v (Some r)
 made {v = v} a l =
-    record { frame = a.frame; light = λ k. (omega (arith, a.ends, length_code v), a.stands); heavy = λ k. absurd (omega arith) }
+    record { frame = a.frame; light = λ k. (ap Some (omega (arith, a.ends, length_code v)), a.stands); heavy = λ k. absurd (omega arith) }
 
-pub made_heavy : {s : List ℕ} {top : ℕ} {v : Value} → 256 < weight v → Made top s s v 0
+pub made_heavy : {s : List ℕ} {top : ℕ} {v : Value} → 256 < weight v → Made top s s v None
 made_heavy {s} {top} l = record { frame = same_refl top s; light = λ k. absurd (omega arith); heavy = λ k. refl }
 
 pub appended_set : {s : List ℕ} {top : ℕ} {s' : List ℕ} {r n : ℕ} (vs : Values) → Appended s (top + 1) s' r (codes vs) → n ≡ count vs → top < length s →
@@ -76,18 +76,18 @@ unfolding code
 appended_set vs a e l = rw e (appended_head _ a l)
 
 pub made_set : (s : List ℕ) (top : ℕ) (s' : List ℕ) (r n : ℕ) (vs : Values) → Appended s (top + 1) s' r (codes vs) → n ≡ count vs → top < length s →
-    weight (set vs) ≤ 256 → Made top s (set_at s' top (21474836480 + n)) (set vs) r
+    weight (set vs) ≤ 256 → Made top s (set_at s' top (21474836480 + n)) (set vs) (Some r)
 made_set s top s' r n vs a e l w = made (appended_set vs a e l) w
 
 -- `put_cell`
-pub cell_made : (s : List ℕ) (top cell : ℕ) → top < length s → (v : Value) → code v ≡ cell ∷ [] → Made top s (set_at s top cell) v (top + 1)
+pub cell_made : (s : List ℕ) (top cell : ℕ) → top < length s → (v : Value) → code v ≡ cell ∷ [] → Made top s (set_at s top cell) v (Some (top + 1))
 cell_made s top cell l v e =
     let a : Appended s top (set_at s top cell) (top + 1) (code v) = rw e (appended_cell s top cell l) in
     made a (omega (arith, length_code v, ap length e))
 
 -- `singleton`
 pub single_made : (s : List ℕ) (a top e : ℕ) (s' : List ℕ) → top + 514 ≤ length s → EndsAt s a e → e - a ≤ 255 → Copied s a (e - a) (top + 1) s' →
-    (v : Value) → ValueBelow s top a v → Made top s (set_at s' top 21474836481) (set_of (v ∷ [])) (top + 1 + (e - a))
+    (v : Value) → ValueBelow s top a v → Made top s (set_at s' top 21474836481) (set_of (v ∷ [])) (Some (top + 1 + (e - a)))
 single_made s a top e s' l x few c v h =
     let z = value_end s top a e v h x in
     let k : Stands s a (codes (v ▸ none)) = rw (single v) h.stands in
@@ -111,13 +111,13 @@ module _ {s : List ℕ} {a b top : ℕ} (d e : ℕ) (x : EndsAt s a d) (y : Ends
   pub pair_pre : top + 514 ≤ length s → (d - a) + (e - b) ≤ 255 → PairPre s a (d - a) b (e - b) top
   pair_pre l few = let z = pair_sizes in record { left = omega (arith, h.below); right = omega (arith, k.below); room = omega arith }
 
-  pub pair_made : {s' : List ℕ} {r : ℕ} → (d - a) + (e - b) ≤ 255 → PairPut s a (d - a) b (e - b) top s' r → Made top s s' (pair v w) r
+  pub pair_made : {s' : List ℕ} {r : ℕ} → (d - a) + (e - b) ≤ 255 → PairPut s a (d - a) b (e - b) top s' r → Made top s s' (pair v w) (Some r)
   pair_made few put = let z = pair_sizes in made (put v w h.stands k.stands (omega arith) (omega arith)) (omega arith)
 
 -- `run`: i of the cells have been written.
-pub record Running (s : List ℕ) (cell n top : ℕ) (s' : List ℕ) (to i : ℕ) : Type 0 where
+pub record Running (s : List ℕ) (cell n top : ℕ) (s' : List ℕ) (i : ℕ) : Type 0 where
   pub given : RunPre s cell n top
-  pub appended : Appended s (top + 1) s' to (cells_from cell i)
+  pub appended : Appended s (top + 1) s' (top + 1 + i) (cells_from cell i)
   pub few : i ≤ n
 
 length_cells : (c n : ℕ) → length (cells_from c n) ≡ n
@@ -130,19 +130,28 @@ unfolding cells_from
 cells_last c zero = let z : c ≡ c + 0 = omega arith in cc
 cells_last c (suc n) = let z : suc c + n ≡ c + suc n = omega arith in ap (λ (l : List ℕ). c ∷ l) (cells_last (suc c) n ∙ rw z)
 
-module _ {s : List ℕ} {cell n top : ℕ} {s' : List ℕ} {to i : ℕ} (h : Running s cell n top s' to i) where
-  pub running_inside : i < n → to < length s'
-  running_inside l = omega (arith, h.appended.ends, length_cells cell i, h.given.room, h.appended.frame.kept)
+pub running_start : {s : List ℕ} {cell n top : ℕ} → RunPre s cell n top → Running s cell n top s 0
+unfolding cells_from
+running_start {s} {top = top} p =
+    let z : top + 1 + 0 ≡ top + 1 = omega arith in
+    record { given = p; appended = rw z (appended_none s (top + 1) (omega (arith, p.room))); few = omega arith }
 
-  pub running_next : i < n → Running s cell n top (set_at s' to (cell + i)) (to + 1) (i + 1)
+module _ {s : List ℕ} {cell n top : ℕ} {s' : List ℕ} {i : ℕ} (h : Running s cell n top s' i) where
+  pub running_inside : i < n → top + 1 + i < length s'
+  running_inside l = omega (arith, h.given.room, h.appended.frame.kept)
+
+  pub running_next : i < n → Running s cell n top (set_at s' (top + 1 + i) (cell + i)) (i + 1)
   running_next l = record {
     given = h.given;
-    appended = rw (add-one i, cells_last cell i) (appended_then h.appended (appended_cell s' to (cell + i) (running_inside l)));
+    appended =
+        let z : top + 1 + (i + 1) ≡ top + 1 + i + 1 = omega arith in
+        rw (z, add-one i, cells_last cell i) (appended_then h.appended (appended_cell s' (top + 1 + i) (cell + i) (running_inside l)));
     few = omega arith;
   }
 
-  pub running_end : n ≤ i → (vs : Values) → count vs ≡ n → codes vs ≡ cells_from cell n → Made top s (set_at s' top (21474836480 + n)) (set vs) to
+  pub running_end : n ≤ i → (vs : Values) → count vs ≡ n → codes vs ≡ cells_from cell n →
+      Made top s (set_at s' top (21474836480 + n)) (set vs) (Some (top + 1 + n))
   running_end l vs e q =
-      let z : cells_from cell i ≡ codes vs = ap (cells_from cell) (let z : i ≡ n = omega (arith, h.few) in z) ∙ sym q in
-      made_set _ _ _ _ _ _ (rw z at h.appended) (sym e) (omega (arith, h.given.room))
+      let z : i ≡ n = omega (arith, h.few) in
+      made_set _ _ _ _ _ _ (rw (z, ← q) at h.appended) (sym e) (omega (arith, h.given.room))
       (omega (arith, h.given.few, length_codes vs, ap length q, length_cells cell n))

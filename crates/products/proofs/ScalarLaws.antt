@@ -1,5 +1,5 @@
 -- Sets of scalars whose cells follow one another as numbers: elements of a given set, truths, integers.
-use Rattle.products.proofs.Base.{ℕ, zero, suc, ◌+◌, ◌*◌, ◌-◌, ◌≤◌, ◌<◌, Bool, true, false, cond, List, ◌≡◌, refl, sym, ap, ◌∙◌, arith, ltb, ltb→lt, nltb→le, ℤ, pos, negsuc, suc_ℤ, sub_ℕ, ◌+ℤ◌, ◌-ℤ◌, +ℤ_one}
+use Rattle.products.proofs.Base.{ℕ, zero, suc, ◌+◌, ◌*◌, ◌-◌, ◌≤◌, ◌<◌, Bool, true, false, cond, List, Some, None, ◌≡◌, refl, sym, ap, ◌∙◌, arith, ltb, ltb→lt, nltb→le, ℤ, pos, negsuc, suc_ℤ, sub_ℕ, ◌+ℤ◌, ◌-ℤ◌, +ℤ_one}
 use Rattle.products.proofs.Terms.{int, values, count, weights, set_of, up_from, to_count, elements_from, excess, code, codes, CellsFit, Made, cells_from, PutsRun, Intervals}
 use Rattle.products.proofs.GrowLaws.{made_heavy}
 
@@ -16,7 +16,7 @@ unfolding elements_from
 elements_count g k zero = refl
 elements_count g k (suc n) = omega (arith, elements_count g (suc k) n)
 
-pub elements_made : (s s' : List ℕ) (g n top r : ℕ) → PutsRun s (12884901888 + 256 * g) n top s' r → Made top s s' (set_of (elements_from g 0 n)) r
+pub elements_made : (s s' : List ℕ) (g n top r : ℕ) → PutsRun s (12884901888 + 256 * g) n top s' r → Made top s s' (set_of (elements_from g 0 n)) (Some r)
 elements_made s s' g n top r put =
     let z : 12884901888 + 256 * g + 0 ≡ 12884901888 + 256 * g = omega arith in
     put (values (elements_from g 0 n)) (elements_count g 0 n) (elements_cells g 0 n ∙ rw z)
@@ -74,10 +74,10 @@ count_distance (negsuc a) (negsuc b) h k = count_sub (suc a) (suc b) ∙ omega a
 interval_count : (i j : ℤ) (x y : ℕ) → CellsFit (int i) → CellsFit (int j) → excess i ≡ x → excess j ≡ y → to_count (j -ℤ i +ℤ pos 1) ≡ suc y - x
 interval_count i j x y h k p q = ap to_count (+ℤ_one (j -ℤ i)) ∙ count_distance i j (fits_low i h) (fits_low j k) ∙ rw (p, q)
 
-pub interval_made : (s : List ℕ) (x y n top : ℕ) (s' : List ℕ) (r : ℕ) → n ≡ suc y - x → PutsRun s (4294967296 + x) n top s' r → Intervals s x y top s' r
+pub interval_made : (s : List ℕ) (x y n top : ℕ) (s' : List ℕ) (r : ℕ) → n ≡ suc y - x → PutsRun s (4294967296 + x) n top s' r → Intervals s x y top s' (Some r)
 interval_made s x y n top s' r e put i j h k p q =
     let z : to_count (j -ℤ i +ℤ pos 1) ≡ n = interval_count i j x y h k p q ∙ sym e in
     rw z (put (values (up_from i n)) (up_sizes i n).0 (up_cells i n (fits_low i h) ∙ ap (λ (c : ℕ). cells_from (4294967296 + c) n) p))
 
-pub interval_heavy : (s : List ℕ) (x y top : ℕ) → 254 < y - x → Intervals s x y top s 0
+pub interval_heavy : (s : List ℕ) (x y top : ℕ) → 254 < y - x → Intervals s x y top s None
 interval_heavy s x y top l i j h k p q = let n = to_count (j -ℤ i +ℤ pos 1) in made_heavy (omega (arith, (up_sizes i n).1, interval_count i j x y h k p q))

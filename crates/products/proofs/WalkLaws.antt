@@ -1,5 +1,5 @@
 -- Walking the members of sets, and the pairs of one value or of a set's members with those of another.
-use Rattle.products.proofs.Base.{ℕ, ◌+◌, ◌*◌, ◌-◌, ◌%◌, ◌≤◌, ◌<◌, List, [], ◌++◌, map, ◌≡◌, refl, sym, ap, ◌∙◌, arith, mul-le-mul_right, length, get_or, length-append, set_at}
+use Rattle.products.proofs.Base.{Some, ℕ, suc, ◌+◌, ◌*◌, ◌-◌, ◌%◌, ◌≤◌, ◌<◌, List, [], ◌++◌, map, ◌≡◌, refl, sym, ap, ◌∙◌, arith, mul-le-mul_right, length, get_or, length-append, set_at}
 use Rattle.products.proofs.Terms.{Value, pair, Values, none, ◌▸◌, members, count, weight, weights, set_of, pairs_of, code, codes, SomeAt, EndsAt, SetBelow, SetAt, Made, Front, Size, Appended, Grown, PairPre, PairPut, pairs_with, RowPre, Rows, square, SquarePre, Squares, FewCells, SmallProducts, SizeIs, product_weight}
 use Rattle.arena.proofs.CodeLaws.{length_codes}
 use Rattle.arena.proofs.FrontLaws.{codes_append, count_append, weights_append, front_start, front_value, front_next, front_below, front_some, front_frame, value_frame, set_end, set_cells}
@@ -36,10 +36,10 @@ module _ {F : Values → List ℕ} {s₀ : List ℕ} {top : ℕ} {vs : Values} {
     walk_forward (w ▸ us, h) l = omega (arith, walk_ends h)
 
     walk_next : {w : Value} {us : Values} → Walking F s₀ top vs to s i left at (w ▸ us) → {s' : List ℕ} {r : ℕ} {cs : List ℕ} →
-        F (w ▸ us) ≡ cs ++ F us → Appended s at s' r cs → WalkAt F s₀ top vs to s' e (left - 1) r
-    walk_next {w} {us} h d a =
-        let next : Walking F s₀ top vs to _ e (left - 1) _ us = record {
-          front = front_next s₀ top i left w us h.front e (left - 1) (walk_ends h) (omega (arith, h.front.counted));
+        F (w ▸ us) ≡ cs ++ F us → Appended s at s' r cs → {others : ℕ} → suc others ≡ left → WalkAt F s₀ top vs to s' e others r
+    walk_next {w} {us} h d a {others} p =
+        let next : Walking F s₀ top vs to _ e others _ us = record {
+          front = front_next s₀ top i left w us h.front e others (walk_ends h) p;
           grown = grown_step (F us) (rw d at h.grown) a;
           behind = h.behind;
         } in
@@ -65,13 +65,13 @@ module _ {s₀ : List ℕ} {v k b m to : ℕ} (g : RowPre s₀ v k b m to) {s : 
       let y = length_codes (pairs_with x g.others) in
       omega (arith, g.value, g.weighs, g.room, h.behind, h.front, d.ends, d.frame.kept, length_codes (pairs_with x (w ▸ us)))
 
-  pub row_next : RowAt g s i left at → 0 < left → (s' : List ℕ) (r : ℕ) → PairPut s v k i (e - i) at s' r → RowAt g s' e (left - 1) r
+  pub row_next : RowAt g s i left at → {others : ℕ} → suc others ≡ left → (s' : List ℕ) (r : ℕ) → PairPut s v k i (e - i) at s' r → RowAt g s' e others r
   unfolding code
-  row_next (none, h) l s' r put = absurd (omega (arith, h.front.counted))
-  row_next (w ▸ us, h) l s' r put =
+  row_next (none, h) p s' r put = absurd (omega (arith, h.front.counted))
+  row_next (w ▸ us, h) p s' r put =
       let there = (value_frame to s₀ s g.top v g.first h.grown.appended.frame h.behind g.value).stands in
       walk_next e ends h refl
-      (put g.first w there (front_value s g.top i left w us (walk_front h)) g.weighs (omega (arith, walk_ends e ends h)))
+      (put g.first w there (front_value s g.top i left w us (walk_front h)) g.weighs (omega (arith, walk_ends e ends h))) p
 
 -- The pairs of the members of two sets.
 square_codes : (v : Value) (vs ws : Values) → codes (square (v ▸ vs) ws) ≡ codes (pairs_with v ws) ++ codes (square vs ws)
@@ -111,10 +111,10 @@ module _ {s₀ : List ℕ} {a n b m to : ℕ} (g : SquarePre s₀ a n b m to) {s
         room = omega (arith, length_codes (square g.lefts g.rights), length_codes (pairs_with w g.rights), g.room, d.frame.kept);
       }
 
-  pub square_next : SquareAt g s i left at → 0 < left → (s' : List ℕ) (r : ℕ) → Rows s i (e - i) b m at s' r → SquareAt g s' e (left - 1) r
+  pub square_next : SquareAt g s i left at → {others : ℕ} → suc others ≡ left → (s' : List ℕ) (r : ℕ) → Rows s i (e - i) b m at s' r → SquareAt g s' e others r
   unfolding square_row
-  square_next (none, h) l s' r put = absurd (omega (arith, h.front.counted))
-  square_next (w ▸ us, h) l s' r put = walk_next e ends h (square_codes w us g.rights) (put (square_row (w ▸ us, h) l))
+  square_next (none, h) p s' r put = absurd (omega (arith, h.front.counted))
+  square_next (w ▸ us, h) p s' r put = walk_next e ends h (square_codes w us g.rights) (put (square_row (w ▸ us, h) (omega arith))) p
 
 -- `size_of`
 pub size_is : {s : List ℕ} {a e n : ℕ} → SetAt s a → EndsAt s a e → n ≡ get_or s a 0 % 4294967296 → SizeIs s a (record { members = n; cells = e - a - 1 })
@@ -157,7 +157,7 @@ module _ {s : List ℕ} {top a b : ℕ} {x y : Size} (p : SizeIs s a x) (q : Siz
     }
 
     pub product_made : (s' : List ℕ) (r : ℕ) → Squares s (a + 1) x.members (b + 1) y.members (top + 1) s' r →
-        Made top s (set_at s' top (21474836480 + x.members * y.members)) (set_of (pairs_of (members vs) (members ws))) r
+        Made top s (set_at s' top (21474836480 + x.members * y.members)) (set_of (pairs_of (members vs) (members ws))) (Some r)
     product_made s' r put =
         made_set _ _ _ _ _ _ (put product_pre) (sym ((square_sizes vs ws).0 ∙ rw ((p.front top vs h).counted, (q.front top ws k).counted)))
         (omega arith) (omega (arith, product_weighs))

@@ -1,5 +1,5 @@
 -- Values built in the arena cell by cell, and what each function has built.
-use Rattle.std.specs.Prelude.{ℕ, zero, suc, ◌+◌, ◌*◌, ◌≤◌, List, [], ◌∷◌, ◌++◌, map, ◌≡◌, ℤ, pos, ◌+ℤ◌, ◌-ℤ◌, length}
+use Rattle.std.specs.Prelude.{ℕ, zero, suc, ◌+◌, ◌*◌, ◌≤◌, List, [], ◌∷◌, ◌++◌, map, Option, Some, ◌≡◌, ℤ, pos, ◌+ℤ◌, ◌-ℤ◌, length}
 use Rattle.rules.specs.Values.{Value, pair, set, Values, int, members, values, count, weight, weights}
 use Rattle.rules.specs.Operations.{set_of, up_from, to_count, pairs_of}
 use Rattle.arena.specs.Code.{excess, code, codes, Stands, ValueAt, Same, CellsFit, SetBelow, ValueBelow, Made, Front}
@@ -19,7 +19,7 @@ pub record Grown (s : List ℕ) (to : ℕ) (s' : List ℕ) (r : ℕ) (whole rest
 
 -- A value of one cell.
 abbrev pub PutsCell : List ℕ → ℕ → ℕ → List ℕ → ℕ → Type 0
-PutsCell s top cell s' r = (v : Value) → code v ≡ cell ∷ [] → Made top s s' v r
+PutsCell s top cell s' r = (v : Value) → code v ≡ cell ∷ [] → Made top s s' v (Some r)
 
 -- n cells that follow one another as numbers, from c on.
 unfoldable pub cells_from : ℕ → ℕ → List ℕ
@@ -33,12 +33,12 @@ pub record RunPre (s : List ℕ) (cell n top : ℕ) : Type 0 where
 
 -- The set of n scalars with these cells.
 abbrev pub PutsRun : List ℕ → ℕ → ℕ → ℕ → List ℕ → ℕ → Type 0
-PutsRun s cell n top s' r = (vs : Values) → count vs ≡ n → codes vs ≡ cells_from cell n → Made top s s' (set vs) r
+PutsRun s cell n top s' r = (vs : Values) → count vs ≡ n → codes vs ≡ cells_from cell n → Made top s s' (set vs) (Some r)
 
-abbrev pub Singles : List ℕ → ℕ → ℕ → List ℕ → ℕ → Type 0
+abbrev pub Singles : List ℕ → ℕ → ℕ → List ℕ → Option ℕ → Type 0
 Singles s a top s' r = (v : Value) → ValueBelow s top a v → Made top s s' (set_of (v ∷ [])) r
 
-abbrev pub PutsPair : List ℕ → ℕ → ℕ → ℕ → List ℕ → ℕ → Type 0
+abbrev pub PutsPair : List ℕ → ℕ → ℕ → ℕ → List ℕ → Option ℕ → Type 0
 PutsPair s a b top s' r = (v w : Value) → ValueBelow s top a v → ValueBelow s top b w → Made top s s' (pair v w) r
 
 -- The pair of a value of n cells at a and one of m cells at b, written at `to`.
@@ -50,7 +50,7 @@ pub record PairPre (s : List ℕ) (a n b m to : ℕ) : Type 0 where
 abbrev pub PairPut : List ℕ → ℕ → ℕ → ℕ → ℕ → ℕ → List ℕ → ℕ → Type 0
 PairPut s a n b m to s' r = (v w : Value) → ValueAt s a v → ValueAt s b w → n ≡ weight v → m ≡ weight w → Appended s to s' r (code (pair v w))
 
-abbrev pub Intervals : List ℕ → ℕ → ℕ → ℕ → List ℕ → ℕ → Type 0
+abbrev pub Intervals : List ℕ → ℕ → ℕ → ℕ → List ℕ → Option ℕ → Type 0
 Intervals s x y top s' r =
     (i j : ℤ) → CellsFit (int i) → CellsFit (int j) → excess i ≡ x → excess j ≡ y → Made top s s' (set_of (up_from i (to_count (j -ℤ i +ℤ pos 1)))) r
 
@@ -106,6 +106,6 @@ pub record SmallProducts (x y : Size) : Type 0 where
 abbrev pub product_weight : Size → Size → ℕ
 product_weight x y = 1 + x.members * y.members + y.members * x.cells + x.members * y.cells
 
-abbrev pub Multiplies : List ℕ → ℕ → ℕ → ℕ → List ℕ → ℕ → Type 0
+abbrev pub Multiplies : List ℕ → ℕ → ℕ → ℕ → List ℕ → Option ℕ → Type 0
 Multiplies s a b top s' r =
     (vs ws : Values) → SetBelow s top a vs → SetBelow s top b ws → Made top s s' (set_of (pairs_of (members vs) (members ws))) r

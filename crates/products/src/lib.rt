@@ -7,10 +7,7 @@ ghost use Rattle.rules.specs.Operations.{set_of, elements_from};
 ghost use Rattle.arena.specs.Code.{SomeSet, SetAt, SomeValue, Made};
 ghost use Rattle.products.specs.Growing.{PutsCell, RunPre, PutsRun, Singles, PutsPair, PairPre, PairPut, Intervals, RowPre, Rows, SquarePre, Squares, SmallProducts, SizeIs, product_weight, Multiplies};
 
-// The cells of the heaviest value, beside numbers of members.
-const MOST: u64 = arena::HEAVIEST as u64;
-
-// The cells that it may have behind its first.
+// The cells that the heaviest value has behind its first.
 const BEHIND_FIRST: usize = arena::HEAVIEST - 1;
 
 // A value of one cell.
@@ -22,17 +19,17 @@ pub fn put_cell(s: &mut [u64], top: usize, cell: u64) -> usize
     top + 1
 }
 
-pub fn singleton(s: &mut [u64], a: usize, top: usize) -> usize
+pub fn singleton(s: &mut [u64], a: usize, top: usize) -> Option<usize>
     requires { SomeValue s.old top a × (top + 514 ≤ length s.old) }
     ensures { Singles s.old a top s.new result }
 {
     let n = arena::end_of(s, a) - a;
     if n > BEHIND_FIRST {
-        return 0;
+        return None;
     }
     arena::copy(s, a, n, top + 1);
     s[top] = arena::SET + 1;
-    top + 1 + n
+    Some(top + 1 + n)
 }
 
 // The pair of the value of n cells at a and the value of m cells at b, behind both.
@@ -46,94 +43,84 @@ fn pair_at(s: &mut [u64], a: usize, n: usize, b: usize, m: usize, to: usize) -> 
     to + 1 + n + m
 }
 
-pub fn pair(s: &mut [u64], a: usize, b: usize, top: usize) -> usize
+pub fn pair(s: &mut [u64], a: usize, b: usize, top: usize) -> Option<usize>
     requires { SomeValue s.old top a × SomeValue s.old top b × (top + 514 ≤ length s.old) }
     ensures { PutsPair s.old a b top s.new result }
 {
     let n = arena::end_of(s, a) - a;
     let m = arena::end_of(s, b) - b;
     if n + m > BEHIND_FIRST {
-        return 0;
+        return None;
     }
-    pair_at(s, a, n, b, m, top)
+    Some(pair_at(s, a, n, b, m, top))
 }
 
 // The set of n scalars whose cells follow one another as numbers.
-fn run(s: &mut [u64], cell: u64, n: u64, top: usize) -> usize
+fn run(s: &mut [u64], cell: u64, n: usize, top: usize) -> usize
     requires { RunPre s.old cell n top }
     ensures { PutsRun s.old cell n top s.new result }
 {
-    let mut to = top + 1;
-    let mut i: u64 = 0;
-    while i < n {
-        s[to] = cell + i;
-        to += 1;
-        i += 1;
+    let from = top + 1;
+    for i in 0..n {
+        s[from + i] = cell + i as u64;
     }
-    s[top] = arena::SET + n;
-    to
+    s[top] = arena::SET + n as u64;
+    from + n
 }
 
 // The n elements of the given set g.
 pub fn elements(s: &mut [u64], g: u64, n: u64, top: usize) -> usize
     requires { (g < 16777216) × (n ≤ 32) × (top + 1 + n ≤ length s.old) }
-    ensures { Made top s.old s.new (set_of (elements_from g 0 n)) result }
+    ensures { Made top s.old s.new (set_of (elements_from g 0 n)) (Some result) }
 {
-    run(s, arena::ELEMENT + arena::GIVEN * g, n, top)
+    run(s, arena::ELEMENT + arena::GIVEN * g, n as usize, top)
 }
 
 pub fn booleans(s: &mut [u64], top: usize) -> usize
     requires { top + 3 ≤ length s.old }
-    ensures { Made top s.old s.new (set_of (truth_value false ∷ truth_value true ∷ [])) result }
+    ensures { Made top s.old s.new (set_of (truth_value false ∷ truth_value true ∷ [])) (Some result) }
 {
     run(s, arena::TRUTH, 2, top)
 }
 
 // The integers from x to y, numbers in excess form.
-pub fn interval(s: &mut [u64], x: u64, y: u64, top: usize) -> usize
+pub fn interval(s: &mut [u64], x: u64, y: u64, top: usize) -> Option<usize>
     requires { (x < 4294967296) × (y < 4294967296) × (top + 514 ≤ length s.old) }
     ensures { Intervals s.old x y top s.new result }
 {
-    if x > y {
-        return run(s, arena::NUMBER + x, 0, top);
+    let n = (y + 1).saturating_sub(x) as usize;
+    if n > BEHIND_FIRST {
+        return None;
     }
-    let n = y - x;
-    if n > 254 {
-        return 0;
-    }
-    run(s, arena::NUMBER + x, n + 1, top)
+    Some(run(s, arena::NUMBER + x, n, top))
 }
 
-// The pairs of the value at v, of k cells, with each of m members from b on.
-fn row(s: &mut [u64], v: usize, k: usize, b: usize, m: u64, to: usize) -> usize
+// The pairs of the value at v, of k cells, with each of m members from b on. A cursor, as in `rows`: members differ in length.
+fn row(s: &mut [u64], v: usize, k: usize, b: usize, m: usize, to: usize) -> usize
     requires { RowPre s.old v k b m to }
     ensures { Rows s.old v k b m to s.new result }
 {
     let mut i = b;
-    let mut left = m;
     let mut at = to;
-    while left > 0 {
+    for _ in 0..m {
         let e = arena::end_of(s, i);
         at = pair_at(s, v, k, i, e - i, at);
         i = e;
-        left -= 1;
     }
     at
 }
 
 // The pairs of n members from a on with m members from b on.
-fn rows(s: &mut [u64], a: usize, n: u64, b: usize, m: u64, to: usize) -> usize
+fn rows(s: &mut [u64], a: usize, n: usize, b: usize, m: usize, to: usize) -> usize
     requires { SquarePre s.old a n b m to }
     ensures { Squares s.old a n b m to s.new result }
 {
     let mut i = a;
-    let mut left = n;
     let mut at = to;
-    while left > 0 {
+    for _ in 0..n {
         let e = arena::end_of(s, i);
         at = row(s, i, e - i, b, m, at);
         i = e;
-        left -= 1;
     }
     at
 }
@@ -141,43 +128,38 @@ fn rows(s: &mut [u64], a: usize, n: u64, b: usize, m: u64, to: usize) -> usize
 // The numbers of a set's members and of their cells.
 #[derive(Clone, Copy)]
 pub struct Size {
-    pub members: u64,
-    pub cells: u64,
+    pub members: usize,
+    pub cells: usize,
 }
 
 pub fn size_of(s: &[u64], a: usize) -> Size
     requires { SetAt s.now a }
     ensures { SizeIs s.now a result }
 {
-    let n = arena::low(s[a]);
     Size {
-        members: n,
-        cells: (arena::end_of(s, a) - a - 1) as u64,
+        members: arena::low(s[a]) as usize,
+        cells: arena::end_of(s, a) - a - 1,
     }
 }
 
 // The weight of the product of two sets.
-fn product_weight(x: Size, y: Size) -> u64
+fn product_weight(x: Size, y: Size) -> usize
     requires { SmallProducts x y }
     ensures { result ≡ product_weight x y }
 {
-    let n = x.members;
-    let k = x.cells;
-    let m = y.members;
-    let l = y.cells;
-    1 + n * m + m * k + n * l
+    1 + x.members * y.members + y.members * x.cells + x.members * y.cells
 }
 
-pub fn product(s: &mut [u64], a: usize, b: usize, top: usize) -> usize
+pub fn product(s: &mut [u64], a: usize, b: usize, top: usize) -> Option<usize>
     requires { SomeSet s.old top a × SomeSet s.old top b × (top + 514 ≤ length s.old) }
     ensures { Multiplies s.old a b top s.new result }
 {
     let x = size_of(s, a);
     let y = size_of(s, b);
-    if product_weight(x, y) > MOST {
-        return 0;
+    if product_weight(x, y) > arena::HEAVIEST {
+        return None;
     }
     let end = rows(s, a + 1, x.members, b + 1, y.members, top + 1);
-    s[top] = arena::SET + x.members * y.members;
-    end
+    s[top] = arena::SET + (x.members * y.members) as u64;
+    Some(end)
 }

@@ -3,6 +3,9 @@ pub use Prim.Native.Nat.Ordering.{eq as Ordering·eq}
 pub use Prim.Native.Nat.Ordering.{gt as Ordering·gt}
 pub use Prim.Native.Nat.Ordering.{lt as Ordering·lt}
 pub use Prim.Native.Nat.{Ordering, ◌%◌, ◌*◌, ◌+◌, ◌-◌, ◌/◌, ◌<◌, ◌≤◌, compare, suc, zero, ℕ}
+pub use Rattle.std.specs.declared.cmp.Ordering.{Ordering as RustOrdering}
+pub use Rattle.std.specs.declared.cmp.Ordering.TheVariants.{Less, Equal, Greater}
+pub use Rattle.std.specs.Prelude.{Option, Some, None, is_some}
 pub use borrow.Author.Rules.{rules}
 pub use borrow.Author.Tests.{eqb-false, eqb-true, le-leb, le-ltb, leb-false, leb-true, lt-leb, lt-ltb, ltb-false, ltb-true, not-false, not-true}
 pub use lib.Dec.{T, T_not, eqb, compare_is_eq, ltb, ltb→lt, lt→ltb, not_T}

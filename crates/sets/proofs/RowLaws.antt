@@ -1,7 +1,7 @@
 -- Rows of cells. The search halves what is left (`Halving`). The members of a set that weigh one cell each, known by the first
 -- (`flat_cells`), make a row (`cells_row`), and a value is a member where its cell is in the row (`cell_in`).
-use Rattle.sets.proofs.Base.{ℕ, zero, suc, ◌+◌, ◌*◌, ◌-◌, ◌%◌, ◌≤◌, ◌<◌, compare, List, inl, inr, ◌≡◌, refl, sym, ap, ◌∙◌, subst, arith, ℕ_discrete, dec_lt, ltb, ltb→lt, lt→ltb, length, get_or}
-use Rattle.sets.proofs.Terms.{Value, scalar, pair, set, Values, none, ◌▸◌, members, weight, order, is_in, cell_size, code, ValueAt, Same, CellsFit, EndsAt, parts_of, AllWeigh, EvenSet, SetBelow, SomeSet, ValueBelow, Front, Cells, RunEnds, Row, LowerBound, Found, FineValue, SomeFine}
+use Rattle.sets.proofs.Base.{ℕ, zero, suc, ◌+◌, ◌*◌, ◌-◌, ◌%◌, ◌≤◌, ◌<◌, compare, Option, Some, None, is_some, true, false, List, inl, inr, ◌≡◌, refl, sym, ap, ◌∙◌, subst, arith, ℕ_discrete, length, get_or}
+use Rattle.sets.proofs.Terms.{Value, scalar, pair, set, Values, none, ◌▸◌, members, weight, order, is_in, cell_size, code, ValueAt, Same, CellsFit, EndsAt, parts_of, AllWeigh, EvenSet, SetBelow, SomeSet, ValueBelow, Front, Cells, RunEnds, Row, Found, FineValue, SomeFine}
 use Rattle.rules.proofs.Basics.{bool_eq}
 use Rattle.laws.proofs.OrderLaws.{order_eq, compare_refl, compare_lt, before_order}
 use Rattle.laws.proofs.Membership.{In, is_in_right}
@@ -29,25 +29,6 @@ module _ {s : List ℕ} {at step n x from left : ℕ} (h : Halving s at step n x
 
   pub halving_down : from + k ≡ m → x ≤ get_or s (at + step * m) 0 → Halving s at step n x from k
   halving_down e l = record { few = omega arith; below = h.below; above = λ i p q. omega (arith, row.rises m i (omega arith) q) }
-
--- `find`: x is not in the row where the first cell that is not below x is another.
-module _ {s : List ℕ} {at step n x : ℕ} where
-  pub found_here : {k : ℕ} → k < n → get_or s (at + step * k) 0 ≡ x → Found s at step n x k
-  found_here l e = record { few = omega arith; here = λ _. e; lost = λ z. absurd (omega arith) }
-
-  pub found_none : ((i : ℕ) → i < n → get_or s (at + step * i) 0 ≡ x → ⊥) → Found s at step n x n
-  found_none d = record { few = omega arith; here = λ l. absurd (omega arith); lost = λ _. d }
-
-  -- no cell is x where x is below the first one
-  pub found_below : Row s at step n → x < get_or s at 0 → Found s at step n x n
-  found_below row l = found_none λ i k e.
-      omega (arith, row.rises 0 i (omega arith) k, ap (λ (j : ℕ). get_or s j 0) (let z : at + step * 0 ≡ at = omega arith in z))
-
-  pub found_other : {r : ℕ} → Row s at step n → LowerBound s at step n x r → r < n → (get_or s (at + step * r) 0 ≡ x → ⊥) → Found s at step n x n
-  found_other {r} row h l d = found_none λ i k e. elim (dec_lt i r) [
-    | yes p ↦ omega (arith, h.below i p)
-    | no p ↦ d (omega (arith, h.above r (omega arith) l, row.rises r i (omega arith) k))
-  ]
 
 -- A row of numbers, each no less than the one before it.
 pub climb : (f : ℕ → ℕ) (n : ℕ) → ((i : ℕ) → suc i < n → f i ≤ f (suc i)) → (i j : ℕ) → i ≤ j → j < n → f i ≤ f j
@@ -186,12 +167,13 @@ module _ {s : List ℕ} {e k : ℕ} {v : Value} (value : ValueBelow s k e v) {to
       (λ j m w ws g h z. h.1 v (inl (sym (cell_tells s e j v w value.stands (front_value s top j m w ws g) value.fits g.fits.0 h.0.0 z))))
       vs f (cells_weigh f c, λ x j. j)
 
-  pub cell_in : {r : ℕ} → Found s at 1 n (get_or s e 0) r → ltb r n ≡ is_in v (members vs)
-  cell_in {r} d =
+  pub cell_in : (r : Option ℕ) → Found s at 1 n (get_or s e 0) r → is_some r ≡ is_in v (members vs)
+  cell_in (Some i) d =
       let right = is_in_right v (members vs) (fits_small v value.fits) (fit_small vs f.fits) in
-      bool_eq (ltb r n) (is_in v (members vs)) (λ t. let l = ltb→lt r n t in right.1 (among r l (d.here l))) λ t.
+      let here = d.here i refl in
+      bool_eq true (is_in v (members vs)) (λ _. right.1 (among i here.0 here.1)) (λ _. tt)
+  cell_in None d =
+      let right = is_in_right v (members vs) (fits_small v value.fits) (fit_small vs f.fits) in
+      bool_eq false (is_in v (members vs)) (λ t. absurd t) λ t.
       let x = place_of s top 1 (AllWeigh 1) one_each v at n vs f (cells_weigh f c) (right.0 t) in
-      elim (ℕ_discrete r n) [
-        | yes z ↦ absurd (d.lost z x.0 x.1 (same_cell s (at + 1 * x.0) e v x.2 value.stands))
-        | no z ↦ lt→ltb r n (omega (arith, d.few))
-      ]
+      absurd (d.lost refl x.0 x.1 (same_cell s (at + 1 * x.0) e v x.2 value.stands))

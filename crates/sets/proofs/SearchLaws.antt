@@ -1,13 +1,13 @@
 -- Walks over the members that are left of a set, one by one (`by_front`): the search for a value, and where a run of members ends.
-use Rattle.sets.proofs.Base.{ℕ, ◌+◌, ◌-◌, ◌≤◌, ◌<◌, Bool, true, false, List, ◌∷◌, inl, inr, ◌≡◌, refl, sym, subst, arith, ltb, ltb→lt, lt→ltb, length, bool_byte}
-use Rattle.sets.proofs.Terms.{Value, scalar, pair, set, Values, none, ◌▸◌, members, weight, order, is_in, ValueAt, CellsFit, order_code, SomeAt, EndsAt, Compared, ValueBelow, Front, key_of, Keyed, Member, MemberOrNone}
+use Rattle.sets.proofs.Base.{ℕ, ◌+◌, ◌-◌, ◌≤◌, ◌<◌, RustOrdering, Less, Equal, Greater, Option, Some, None, is_some, Bool, true, false, List, ◌∷◌, inl, inr, ◌≡◌, refl, sym, subst, arith, length, bool_byte}
+use Rattle.sets.proofs.Terms.{Value, scalar, pair, set, Values, none, ◌▸◌, members, weight, order, is_in, ValueAt, CellsFit, ordering_of, SomeAt, EndsAt, Compared, ValueBelow, Front, key_of, Keyed, MemberOrNone}
 use Rattle.rules.proofs.Basics.{bool_eq}
 use Rattle.laws.proofs.OrderLaws.{Small, order_eq, order_refl, order_before, before_irrefl}
 use Rattle.laws.proofs.SetOrder.{All, Before, all_imp}
 use Rattle.laws.proofs.Membership.{In, all_in_law, is_in_right}
 use Rattle.arena.proofs.CodeLaws.{fits_small}
 use Rattle.arena.proofs.ValueParts.{left_stands}
-use Rattle.arena.proofs.FrontLaws.{rises_rising, fit_small, front_value, front_below, front_next, code_less, code_equal}
+use Rattle.arena.proofs.FrontLaws.{rises_rising, fit_small, front_value, front_below, front_next, ordering_less, ordering_equal}
 use Rattle.sets.proofs.KeyLaws.{Keeps, pairs_small, less_all}
 
 module _ {s : List ℕ} {top at n : ℕ} (P : Values → Type 0) where
@@ -53,7 +53,7 @@ pub record Seeking (s : List ℕ) (top at : ℕ) (first : Bool) (v : Value) (vs 
   pub front : Front s top i left rest
   pub keyed : Keyed first rest
   pub behind : at ≤ i
-  pub on : (r : ℕ) → MemberOrNone s top at first v (members rest) r → MemberOrNone s top at first v vs r
+  pub on : (r : Option ℕ) → MemberOrNone s top at first v (members rest) r → MemberOrNone s top at first v vs r
 
 module _ {s : List ℕ} {top at : ℕ} {first : Bool} {v : Value} {vs : List Value} {i left : ℕ} (h : Seeking s top at first v vs i left) where
   pub seeking_key : 0 < left → SomeAt s (i + bool_byte first)
@@ -62,65 +62,58 @@ module _ {s : List ℕ} {top at : ℕ} {first : Bool} {v : Value} {vs : List Val
       (λ w ws f k. let x = key_stands first s i w ws k (front_value s top i left w ws f) f.fits.0 in
       record { value = key_of first w; stands = x.0; fits = x.1 }) h.front l h.keyed
 
-  pub seeking_end : left ≤ 0 → MemberOrNone s top at first v vs 0
-  seeking_end l = h.on 0 (no_front (λ ws. MemberOrNone s top at first v (members ws) 0) (inr (refl, tt)) h.front l)
+  pub seeking_end : left ≤ 0 → MemberOrNone s top at first v vs None
+  seeking_end l = h.on None (no_front (λ ws. MemberOrNone s top at first v (members ws) None) tt h.front l)
 
-  module _ {e c : ℕ} (value : ValueBelow s (length s) e v) (compared : Compared s e (i + bool_byte first) c) (l : 0 < left) where
+  module _ {e : ℕ} {c : RustOrdering} (value : ValueBelow s (length s) e v) (compared : Compared s e (i + bool_byte first) c) (l : 0 < left) where
     -- A turn, by the first of the members that are left and the order of v and its key.
     by_key : (P : Values → Type 0) →
-        ((w : Value) (ws : Values) → Front s top i left (w ▸ ws) → Keyed first (w ▸ ws) → c ≡ order_code (order v (key_of first w)) →
+        ((w : Value) (ws : Values) → Front s top i left (w ▸ ws) → Keyed first (w ▸ ws) → c ≡ ordering_of (order v (key_of first w)) →
         CellsFit (key_of first w) → P (w ▸ ws)) → P h.rest
     by_key P k =
         by_front (λ ws. Keyed first ws → P ws)
         (λ w ws f q. let x = key_stands first s i w ws q (front_value s top i left w ws f) f.fits.0 in
         k w ws f q (compared v (key_of first w) value.stands x.0 value.fits x.1) x.1) h.front l h.keyed
 
-    pub seeking_found : c ≡ 1 → MemberOrNone s top at first v vs i
-    seeking_found z = h.on i (by_key (λ ws. MemberOrNone s top at first v (members ws) i) λ w ws f q o x.
-        inl (record {
+    pub seeking_found : c ≡ Equal → MemberOrNone s top at first v vs (Some i)
+    seeking_found z = h.on (Some i) (by_key (λ ws. MemberOrNone s top at first v (members ws) (Some i)) λ w ws f q o x.
+        record {
           is = w;
           among = inl refl;
-          key = sym (order_eq v (key_of first w) (fits_small v value.fits) (fits_small (key_of first w) x) (code_equal (order v (key_of first w)) c o z));
+          key = sym (order_eq v (key_of first w) (fits_small v value.fits) (fits_small (key_of first w) x) (ordering_equal (order v (key_of first w)) c o z));
           behind = h.behind;
           value = front_below s top i left w ws f;
-        }))
+        })
 
-    pub seeking_past : c ≡ 0 → MemberOrNone s top at first v vs 0
-    seeking_past z = h.on 0 (by_key (λ ws. MemberOrNone s top at first v (members ws) 0) λ w ws f q o x.
-        inr (refl, keys_past first v w ws f q (order_before v (key_of first w) (code_less (order v (key_of first w)) c o z))))
+    pub seeking_past : c ≡ Less → MemberOrNone s top at first v vs None
+    seeking_past z = h.on None (by_key (λ ws. MemberOrNone s top at first v (members ws) None) λ w ws f q o x.
+        keys_past first v w ws f q (order_before v (key_of first w) (ordering_less (order v (key_of first w)) c o z)))
 
-    pub seeking_next : (c ≡ 1 → ⊥) → {r : ℕ} → EndsAt s i r → Seeking s top at first v vs r (left - 1)
-    seeking_next d {r} ends =
-        by_key (λ ws. ((r : ℕ) → MemberOrNone s top at first v (members ws) r → MemberOrNone s top at first v vs r) → Seeking s top at first v vs r (left - 1))
+    pub seeking_next : c ≡ Greater → {r : ℕ} → EndsAt s i r → Seeking s top at first v vs r (left - 1)
+    seeking_next z {r} ends =
+        by_key (λ ws. ((r : Option ℕ) → MemberOrNone s top at first v (members ws) r → MemberOrNone s top at first v vs r)
+        → Seeking s top at first v vs r (left - 1))
         (λ w ws f q o x on. let y : r ≡ i + weight w = ends w (front_value s top i left w ws f) f.fits.0 in
         record {
           rest = ws;
           front = front_next s top i left w ws f r (left - 1) y (omega arith);
           keyed = elim first as (λ b. Keyed b (w ▸ ws) → Keyed b ws) [ true ↦ λ k. k.1 | false ↦ λ k. tt ] q;
           behind = omega (arith, h.behind);
-          on = λ k m. on k (further w ws (λ e. d (rw (o, e, order_refl v) refl)) k m);
+          on = λ k m. on k (further w ws (λ e. other (rw (o, e, order_refl v) refl)) k m);
         }) h.on
       where
-        further : (w : Value) (ws : Values) → (key_of first w ≡ v → ⊥) → (k : ℕ) → MemberOrNone s top at first v (members ws) k →
+        other : c ≡ Equal → ⊥
+        other e = cc
+
+        further : (w : Value) (ws : Values) → (key_of first w ≡ v → ⊥) → (k : Option ℕ) → MemberOrNone s top at first v (members ws) k →
             MemberOrNone s top at first v (w ∷ members ws) k
-        further w ws n k (inl m) = inl (record { is = m.is; among = inr m.among; key = m.key; behind = m.behind; value = m.value })
-        further w ws n k (inr m) = inr (m.0, (n, m.1))
+        further w ws n (Some k) m = record { is = m.is; among = inr m.among; key = m.key; behind = m.behind; value = m.value }
+        further w ws n None m = (n, m)
 
--- What the answer tells: there is such a member, or there is none.
-module _ {s : List ℕ} {top at : ℕ} {first : Bool} {v : Value} {vs : List Value} {r : ℕ} where
-  pub sought_some : MemberOrNone s top at first v vs r → (r ≡ 0 → ⊥) → Member s top at first v vs r
-  sought_some (inl m) d = m
-  sought_some (inr n) d = absurd (d n.0)
-
-  pub sought_none : MemberOrNone s top at first v vs r → r < at → All (λ w. key_of first w ≡ v → ⊥) vs
-  sought_none (inl m) l = absurd (omega (arith, m.behind))
-  sought_none (inr n) l = n.1
-
-pub sought_in : {s : List ℕ} {top at : ℕ} {v : Value} {vs : List Value} {r : ℕ} → MemberOrNone s top at false v vs r → 0 < at → Small v → All Small vs →
-    ltb 0 r ≡ is_in v vs
-sought_in {v = v} {vs} {r} (inl m) l p q =
-    bool_eq (ltb 0 r) (is_in v vs) (λ _. (is_in_right v vs p q).1 (subst (λ (w : Value). In w vs) m.key m.among))
-    (λ _. lt→ltb 0 r (omega (arith, m.behind)))
-sought_in {v = v} {vs} {r} (inr n) l p q =
-    bool_eq (ltb 0 r) (is_in v vs) (λ t. absurd (omega (arith, n.0, ltb→lt 0 r t)))
-    (λ t. absurd (all_in_law (λ w. w ≡ v → ⊥) v vs n.1 ((is_in_right v vs p q).0 t) refl))
+-- The answer tells whether there is such a member.
+pub sought_in : (s : List ℕ) (top at : ℕ) (v : Value) (vs : List Value) (r : Option ℕ) → MemberOrNone s top at false v vs r → Small v → All Small vs →
+    is_some r ≡ is_in v vs
+sought_in s top at v vs (Some r) m p q =
+    bool_eq true (is_in v vs) (λ _. (is_in_right v vs p q).1 (subst (λ (w : Value). In w vs) m.key m.among)) (λ _. tt)
+sought_in s top at v vs None n p q =
+    bool_eq false (is_in v vs) (λ t. absurd t) (λ t. absurd (all_in_law (λ w. w ≡ v → ⊥) v vs n ((is_in_right v vs p q).0 t) refl))

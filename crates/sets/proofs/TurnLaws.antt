@@ -1,11 +1,11 @@
 -- A turn of a walk over two sets, and inclusion, which takes such turns. Where the members are one cell each, a turn goes by the order of two cells as
 -- numbers.
-use Rattle.sets.proofs.Base.{ℕ, suc, ◌+◌, ◌-◌, ◌≤◌, ◌<◌, Ordering, Ordering·lt, Ordering·eq, Ordering·gt, ◌%◌, Bool, true, false, cond, List, [], ◌∷◌, ◌≡◌, refl, sym, ap, ◌∙◌, subst, arith, length, get_or, ltb, eqb, lt-ltb, le-ltb, eqb-true, eqb-false, bool_byte}
-use Rattle.sets.proofs.Terms.{Value, Values, ◌▸◌, members, count, weight, order, none, all_in, is_in, CellsFit, order_code, SomeAt, EndsAt, Compared, ValuesCompared, Rows, Rises, Front, AllFit, SetBelow, Turn, keep_of, rest_left, rest_right, Turned, TurnAt, TwoFronts, TwoRuns, Cells, Found, TwoRows}
+use Rattle.sets.proofs.Base.{ℕ, suc, RustOrdering, Less, Equal, Greater, Option, is_some, ◌+◌, ◌-◌, ◌≤◌, ◌<◌, Ordering, Ordering·lt, Ordering·eq, Ordering·gt, ◌%◌, Bool, true, false, cond, List, [], ◌∷◌, ◌≡◌, refl, sym, ap, ◌∙◌, subst, arith, length, get_or, eqb, eqb-true, eqb-false, bool_byte}
+use Rattle.sets.proofs.Terms.{Value, Values, ◌▸◌, members, count, weight, order, none, all_in, is_in, CellsFit, ordering_of, SomeAt, EndsAt, Compared, ValuesCompared, Rows, Rises, Front, AllFit, SetBelow, Turn, keep_of, rest_left, rest_right, Turned, TurnAt, TwoFronts, TwoRuns, Cells, Found, TwoRows}
 use Rattle.laws.proofs.OrderLaws.{flip, order_eq, order_flip, order_before}
 use Rattle.laws.proofs.SetOrder.{All, Before}
 use Rattle.arena.proofs.CodeLaws.{fits_small}
-use Rattle.arena.proofs.FrontLaws.{rises_rising, front_value, front_below, front_next, front_at, code_less, code_equal, code_greater, front_start}
+use Rattle.arena.proofs.FrontLaws.{rises_rising, front_value, front_below, front_next, front_at, ordering_less, ordering_equal, ordering_greater, front_start}
 use Rattle.sets.proofs.MemberLaws.{after_order, before_all, is_in_turn, is_in_before}
 use Rattle.sets.proofs.SearchLaws.{by_front, no_front, by_fronts}
 use Rattle.rules.proofs.Basics.{absurd01}
@@ -18,31 +18,32 @@ member_end : {s : List ℕ} {top a m end : ℕ} {v : Value} {vs : Values} → En
 member_end {s} {top} {a} {m} {end} {v} {vs} ends f {m'} p =
     let x = ends v (front_value s top a m v vs f) f.fits.0 in (x, front_next s top a m v vs f end m' x p)
 
-module _ {s : List ℕ} {a b c : ℕ} (compared : Compared s a b c) where
+module _ {s : List ℕ} {a b : ℕ} {c : RustOrdering} (compared : Compared s a b c) where
   order_of : {top m n : ℕ} {v : Value} {vs : Values} {w : Value} {ws : Values} → Front s top a m (v ▸ vs) → Front s top b n (w ▸ ws) →
-      c ≡ order_code (order v w)
+      c ≡ ordering_of (order v w)
   order_of {top} {m} {n} {v} {vs} {w} {ws} f g =
       compared v w (front_value s top a m v vs f) (front_value s top b n w ws g) f.fits.0 g.fits.0
 
   module _ {m n : ℕ} {l e r : Bool} {end : ℕ} (ends : EndsAt s a end) where
-    pub turn_less : c ≡ 0 → {m' : ℕ} → suc m' ≡ m → TurnAt s a m b n l e r (record { from = a; end = end; keep = l; a = end; m = m'; b = b; n = n })
+    pub turn_less : c ≡ Less → {m' : ℕ} → suc m' ≡ m →
+        TurnAt s a m b n l e r (record { from = a; end = end; keep = l; rest = record { a = end; m = m'; b = b; n = n } })
     turn_less z p top v vs w ws f g =
         let x = member_end ends f p in
-        rw (code_less (order v w) c (order_of f g) z)
+        rw (ordering_less (order v w) c (order_of f g) z)
         (record { keeps = refl; value = front_below s top a m v vs f; ends = x.0; on_left = x.1; on_right = g })
 
     module _ {end2 : ℕ} (ends2 : EndsAt s b end2) {n' : ℕ} (q : suc n' ≡ n) where
-      pub turn_equal : c ≡ 1 → {m' : ℕ} → suc m' ≡ m →
-          TurnAt s a m b n l e r (record { from = a; end = end; keep = e; a = end; m = m'; b = end2; n = n' })
+      pub turn_equal : c ≡ Equal → {m' : ℕ} → suc m' ≡ m →
+          TurnAt s a m b n l e r (record { from = a; end = end; keep = e; rest = record { a = end; m = m'; b = end2; n = n' } })
       turn_equal z p top v vs w ws f g =
           let x = member_end ends f p in
-          rw (code_equal (order v w) c (order_of f g) z)
+          rw (ordering_equal (order v w) c (order_of f g) z)
           (record { keeps = refl; value = front_below s top a m v vs f; ends = x.0; on_left = x.1; on_right = (member_end ends2 g q).1 })
 
-      pub turn_greater : (c ≡ 0 → ⊥) → (c ≡ 1 → ⊥) → TurnAt s a m b n l e r (record { from = b; end = end2; keep = r; a = a; m = m; b = end2; n = n' })
-      turn_greater x y top v vs w ws f g =
+      pub turn_greater : c ≡ Greater → TurnAt s a m b n l e r (record { from = b; end = end2; keep = r; rest = record { a = a; m = m; b = end2; n = n' } })
+      turn_greater z top v vs w ws f g =
           let d = member_end ends2 g q in
-          rw (code_greater (order v w) c (order_of f g) y x)
+          rw (ordering_greater (order v w) c (order_of f g) z)
           (record { keeps = refl; value = front_below s top b n w ws g; ends = d.0; on_left = f; on_right = d.1 })
 
 -- Two sets that both have members left.
@@ -72,7 +73,7 @@ two_fronts {s} {top} {a} {m} {b} {n} =
 
 -- A turn takes a member.
 pub turn_fewer : (s : List ℕ) (top : ℕ) (l e r : Bool) (o : Ordering) (v : Value) (vs : Values) (w : Value) (ws : Values) (t : Turn) →
-    Turned s top l e r o v vs w ws t → t.m + t.n < count (v ▸ vs) + count (w ▸ ws)
+    Turned s top l e r o v vs w ws t → t.rest.m + t.rest.n < count (v ▸ vs) + count (w ▸ ws)
 turn_fewer s top l e r Ordering·lt v vs w ws t h = omega (arith, h.on_left.counted, h.on_right.counted)
 turn_fewer s top l e r Ordering·eq v vs w ws t h = omega (arith, h.on_left.counted, h.on_right.counted)
 turn_fewer s top l e r Ordering·gt v vs w ws t h = omega (arith, h.on_left.counted, h.on_right.counted)
@@ -128,10 +129,10 @@ module _ {s : List ℕ} {a m b n : ℕ} {whole : Bool} (h : Including s a m b n 
       (λ v vs f. no_front (λ ws. whole ≡ all_in (v ∷ members vs) (members ws) → false ≡ whole) (λ q. sym q) h.on_right (omega arith)) h.on_left l h.same
 
   pub including_turn : 0 < m → (n ≡ 0 → ⊥) → {t : Turn} → TurnAt s a m b n false true true t →
-      (t.keep ≡ true → Including s t.a t.m t.b t.n whole × (t.m + t.n < m + n)) × (t.keep ≡ false → false ≡ whole)
+      (t.keep ≡ true → Including s t.rest.a t.rest.m t.rest.b t.rest.n whole × (t.rest.m + t.rest.n < m + n)) × (t.keep ≡ false → false ≡ whole)
   including_turn l z {t} turn =
       by_fronts (λ vs ws. whole ≡ all_in (members vs) (members ws) →
-      (t.keep ≡ true → Including s t.a t.m t.b t.n whole × (t.m + t.n < m + n)) × (t.keep ≡ false → false ≡ whole))
+      (t.keep ≡ true → Including s t.rest.a t.rest.m t.rest.b t.rest.n whole × (t.rest.m + t.rest.n < m + n)) × (t.keep ≡ false → false ≡ whole))
       (λ v vs w ws f g q. let d = turn (length s) v vs w ws f g in
       let o = order v w in
       let k = q ∙ all_in_turn o v vs w ws refl f.rises g.rises f.fits.0 g.fits.0 in (
@@ -175,24 +176,25 @@ module _ {s : List ℕ} {a m b n : ℕ} {whole : Bool} (h : Including s a m b n 
       ] refl
 
   -- A search for the first member.
-  module _ (l : 0 < m) (left : Cells s a m) (right : Cells s b n) {r : ℕ} (found : Found s b 1 n (get_or s a 0) r) where
+  module _ (l : 0 < m) (left : Cells s a m) (right : Cells s b n) (r : Option ℕ) (found : Found s b 1 n (get_or s a 0) r) where
     -- what is told by the first member's cell
-    first_in_law : (v : Value) (vs : Values) → Front s (length s) a m (v ▸ vs) → ltb r n ≡ is_in v (members h.right)
-    first_in_law v vs f = cell_in (front_below s (length s) a m v vs f) h.on_right right found
+    first_in_law : (v : Value) (vs : Values) → Front s (length s) a m (v ▸ vs) → is_some r ≡ is_in v (members h.right)
+    first_in_law v vs f = cell_in (front_below s (length s) a m v vs f) h.on_right right r found
 
-    pub including_sought : ((r ≡ n → ⊥) → Including s (a + 1) (m - 1) b n whole) × (r ≡ n → false ≡ whole)
+    pub including_sought : (is_some r ≡ true → Including s (a + 1) (m - 1) b n whole) × (is_some r ≡ false → false ≡ whole)
     unfolding all_in
     including_sought =
-        by_front (λ vs. whole ≡ all_in (members vs) (members h.right) → ((r ≡ n → ⊥) → Including s (a + 1) (m - 1) b n whole) × (r ≡ n → false ≡ whole))
+        by_front (λ vs. whole ≡ all_in (members vs) (members h.right) →
+        (is_some r ≡ true → Including s (a + 1) (m - 1) b n whole) × (is_some r ≡ false → false ≡ whole))
         (λ v vs f q. (
           λ z. record {
             left = vs;
             right = h.right;
             on_left = front_next s (length s) a m v vs f (a + 1) (m - 1) (omega (arith, (cells_weigh f left).0)) (omega arith);
             on_right = h.on_right;
-            same = q ∙ rw (← first_in_law v vs f, lt-ltb r n (omega (arith, found.few)));
+            same = q ∙ rw (sym (first_in_law v vs f) ∙ z);
           },
-          λ z. sym (q ∙ rw (← first_in_law v vs f, le-ltb r n (omega arith))),
+          λ z. sym (q ∙ rw (sym (first_in_law v vs f) ∙ z)),
         )) h.on_left l h.same
 
   -- A turn of the walk over both.
@@ -220,7 +222,7 @@ module _ {s : List ℕ} {a m b n : ℕ} {whole : Bool} (h : Including s a m b n 
             rw (let z : a + 0 ≡ a = omega arith in z, let z : m - 0 ≡ m = omega arith in z)
             ((including_turn h l (λ z. omega arith)
             (turn_greater (cell_greater s a b ends2 (omega (arith, eqb-false (get_or s a 0) (get_or s b 0) e))) ends ends2
-            (let z : suc (n - 1) ≡ n = omega arith in z) (λ z. omega arith) (λ z. omega arith))).0 refl).0
+            (let z : suc (n - 1) ≡ n = omega arith in z) refl)).0 refl).0
 
 -- A walk over m cells from a on and n from b on: those that are left decide.
 pub record RowWalk (s : List ℕ) (a m b n i left j others : ℕ) : Type 0 where

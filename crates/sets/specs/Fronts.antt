@@ -1,6 +1,6 @@
 -- Walks over the members of sets in the arena, and what membership and inclusion answer.
 use Prim.Native.Nat.{ℕ, ◌+◌, ◌≤◌, ◌<◌, Ordering}
-use Rattle.std.specs.Prelude.{Bool, true, false, List, ◌⊎◌, ◌≡◌, length, get_or}
+use Rattle.std.specs.Prelude.{Bool, true, false, List, Option, Some, None, ◌≡◌, length, get_or}
 use Rattle.rules.specs.Values.{Value, Values, ◌▸◌, members, weight, weights, order}
 use Rattle.rules.specs.Operations.{left, is_in, all_in}
 use Rattle.rules.specs.Safety.{All}
@@ -33,11 +33,12 @@ pub record Member (s : List ℕ) (top at : ℕ) (first : Bool) (v : Value) (vs :
   pub behind : at ≤ r
   pub value : ValueBelow s top r is
 
--- r is where such a member stands, or 0 where there is none.
-abbrev pub MemberOrNone : List ℕ → ℕ → ℕ → Bool → Value → List Value → ℕ → Type 0
-MemberOrNone s top at first v vs r = Member s top at first v vs r ⊎ ((r ≡ 0) × All (λ w. key_of first w ≡ v → ⊥) vs)
+-- The answer is where such a member stands, if there is one.
+abbrev pub MemberOrNone : List ℕ → ℕ → ℕ → Bool → Value → List Value → Option ℕ → Type 0
+MemberOrNone s top at first v vs (Some r) = Member s top at first v vs r
+MemberOrNone s top at first v vs None = All (λ w. key_of first w ≡ v → ⊥) vs
 
-abbrev pub Sought : List ℕ → ℕ → ℕ → ℕ → Bool → ℕ → Type 0
+abbrev pub Sought : List ℕ → ℕ → ℕ → ℕ → Bool → Option ℕ → Type 0
 Sought s at n e first r =
     (top : ℕ) (vs : Values) (v : Value) → Front s top at n vs → Keyed first vs → ValueBelow s (length s) e v →
     MemberOrNone s top at first v (members vs) r
@@ -87,8 +88,8 @@ pub record Turned (s : List ℕ) (top : ℕ) (l b r : Bool) (o : Ordering) (v : 
   pub keeps : t.keep ≡ keep_of l b r o
   pub value : ValueBelow s top t.from (first_of o v w)
   pub ends : t.end ≡ t.from + weight (first_of o v w)
-  pub on_left : Front s top t.a t.m (rest_left o v vs)
-  pub on_right : Front s top t.b t.n (rest_right o w ws)
+  pub on_left : Front s top t.rest.a t.rest.m (rest_left o v vs)
+  pub on_right : Front s top t.rest.b t.rest.n (rest_right o w ws)
 
 -- t is the turn at two sets of which m members from a on and n from b on are left.
 abbrev pub TurnAt : List ℕ → ℕ → ℕ → ℕ → ℕ → Bool → Bool → Bool → Turn → Type 0

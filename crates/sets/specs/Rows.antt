@@ -1,5 +1,5 @@
 -- Rows of cells: sets whose members are one cell each. The search in a row is about numbers only.
-use Rattle.std.specs.Prelude.{ℕ, ◌+◌, ◌*◌, ◌%◌, ◌≤◌, ◌<◌, Bool, true, List, ◌≡◌, length, get_or}
+use Rattle.std.specs.Prelude.{ℕ, ◌+◌, ◌*◌, ◌%◌, ◌≤◌, ◌<◌, Bool, true, List, Option, Some, None, ◌≡◌, length, get_or}
 use Rattle.rules.specs.Values.{Value, scalar, pair, set}
 use Rattle.arena.specs.Code.{FineSet, ValueBelow}
 use Rattle.sets.specs.Fronts.{Cells, TwoRuns}
@@ -15,11 +15,10 @@ pub record LowerBound (s : List ℕ) (at step n x r : ℕ) : Type 0 where
   pub below : (i : ℕ) → i < r → get_or s (at + step * i) 0 < x
   pub above : (i : ℕ) → r ≤ i → i < n → x ≤ get_or s (at + step * i) 0
 
--- Cell r is x; none is where r is n.
-pub record Found (s : List ℕ) (at step n x r : ℕ) : Type 0 where
-  pub few : r ≤ n
-  pub here : r < n → get_or s (at + step * r) 0 ≡ x
-  pub lost : r ≡ n → (i : ℕ) → i < n → get_or s (at + step * i) 0 ≡ x → ⊥
+-- r is which cell is x, if one is.
+pub record Found (s : List ℕ) (at step n x : ℕ) (r : Option ℕ) : Type 0 where
+  pub here : (k : ℕ) → r ≡ Some k → (k < n) × (get_or s (at + step * k) 0 ≡ x)
+  pub lost : r ≡ None → (i : ℕ) → i < n → get_or s (at + step * i) 0 ≡ x → ⊥
 
 -- Where the answer is `true`, the members of the set at a are one cell each.
 abbrev pub OfCells : List ℕ → ℕ → Bool → Type 0

@@ -4,29 +4,29 @@ use native.Mathlib.Omega.{arith}
 use mathlib.Core.Path.{ap, ◌∙◌}
 use Rattle.arena.specs.Code.{parts_of}
 use Rattle.arena.proofs.ValueParts.{some_inside}
-use Rattle.arena.proofs.RowOrder.{left_some, left_next, left_forward, left_end, inner_some, values_compared}
+use Rattle.arena.proofs.RowOrder.{left_some, left_on, left_forward, left_end, inner_some, values_compared}
 use Rattle.arena.proofs.+compare_rows_compare_values.Goals as goal
 
 -- A turn of the loop: the values that are left of what stands there.
-pub compare_rows-compare_values-r-requires : goal.compare_rows-compare_values-r-requires
-compare_rows-compare_values-r-requires t c =
+pub compare_rows-compare_values-next-requires : goal.compare_rows-compare_values-next-requires
+compare_rows-compare_values-next-requires t c =
     let p = c.requires in
-    let whole = c.loop-left.invariant.1 p.0.0 p.1.0 p.0.1 p.1.1 in
-    (omega (arith, c.decreases, c.loop-left.invariant.0), left_some whole c.loop-left-test.true)
+    let whole = c.loop.invariant.1 p.0.0 p.1.0 p.0.1 p.1.1 in
+    (omega (arith, c.decreases, c.loop.invariant.0), left_some whole (omega (arith, c.loop-test.true)))
 
-pub compare_rows-loop-left-preserved : goal.compare_rows-loop-left-preserved
-compare_rows-loop-left-preserved t c =
+pub compare_rows-loop-preserved : goal.compare_rows-loop-preserved
+compare_rows-loop-preserved t c =
     let p = c.requires in
-    let whole = c.loop-left.invariant.1 p.0.0 p.1.0 p.0.1 p.1.1 in
-    let m = c.compare_values-r.ensures in
-    let taken = c.loop-left-test.true in (
-      omega (arith, c.loop-left.invariant.0, left_forward whole taken _ m),
-      λ vs ws h k. left_next (c.loop-left.invariant.1 vs ws h k) taken _ m _ c.then_next-order.ensures,
+    let whole = c.loop.invariant.1 p.0.0 p.1.0 p.0.1 p.1.1 in
+    let m = c.compare_values-next.ensures in
+    let taken = c.loop-test.true in (
+      omega (arith, c.loop.invariant.0, left_forward whole (omega (arith, taken)) _ m),
+      λ vs ws h k. left_on (c.loop.invariant.1 vs ws h k) taken _ m _ c.then_next.ensures,
     )
 
 pub compare_rows-returns : goal.compare_rows-returns
 compare_rows-returns t c = λ vs ws h k.
-    let q = left_end (c.loop-left.invariant.1 vs ws h k) (omega (arith, c.loop-left-test.false)) in
+    let q = left_end (c.loop.invariant.1 vs ws h k) (omega (arith, c.loop-test.false)) in
     record { order = q.0; first = q.1; second = q.2 }
 
 pub compare_values-bounds-s-a : goal.compare_values-bounds-s-a

@@ -13,10 +13,7 @@ decreases-compare_values l = 2 * (length l.s.now - l.a)
 abbrev pub decreases-compare_rows : goal.decreases-compare_rows
 decreases-compare_rows l = 2 * (length l.s.now - l.a) + 1
 
-abbrev pub invariant-compare_rows-loop-left : goal.invariant-compare_rows-loop-left
-invariant-compare_rows-loop-left l =
-    (l.a ≤ l.i) × ((vs ws : Values) → RowAt l.s l.a l.n vs → RowAt l.s l.b l.n ws →
-    SomeLeft l.s l.i l.j l.left l.last l.order (row_order l.last vs ws) (l.a + weights vs) (l.b + weights ws))
-
-abbrev pub decreases-compare_rows-loop-left : goal.decreases-compare_rows-loop-left
-decreases-compare_rows-loop-left l = l.left
+abbrev pub invariant-compare_rows-loop : goal.invariant-compare_rows-loop
+invariant-compare_rows-loop l =
+    (l.a ≤ l.rows.a) × ((vs ws : Values) → RowAt l.s l.a l.n vs → RowAt l.s l.b l.n ws →
+    SomeLeft l.s l.rows.a l.rows.b (l.n - l.counter) l.last l.rows.order (row_order l.last vs ws) (l.a + weights vs) (l.b + weights ws))

@@ -10,4 +10,4 @@ pub bounds-s-b : goal.bounds-s-b
 bounds-s-b c = some_inside _ _ c.requires.1
 
 pub returns : goal.returns
-returns c = values_apart _ _ _ _ c.requires.2 c.cell_order-order.ensures c.end_of-end.ensures c.end_of-other.ensures
+returns c = values_apart _ _ _ _ c.requires.2 c.cmp.ensures c.end_of.ensures c.end_of-2.ensures

@@ -1,8 +1,8 @@
--- `compare`: nothing has decided so far; cells that differ decide, a set with members leaves all to `compare_whole`, and other cells that agree
+-- `compare`: nothing has decided so far; cells that differ decide, a set with members leaves all to `compare_values`, and other cells that agree
 -- are passed.
-use Rattle.arena.proofs.Base.{◌+◌, ◌<◌, ◌≡◌, arith, get_or}
+use Rattle.arena.proofs.Base.{◌<◌, ◌∙◌, arith}
 use Rattle.rules.specs.Values.{weight}
-use Rattle.arena.proofs.CompareLaws.{undecided_start, undecided_inside, first_less, first_greater, cell_passed, undecided_end}
+use Rattle.arena.proofs.CompareLaws.{undecided_start, undecided_inside, first_apart, cell_passed, undecided_end}
 use Rattle.arena.proofs.compare.Goals as goal
 
 pub loop-i-init : goal.loop-i-init
@@ -25,20 +25,14 @@ bounds-s-b c =
 pub returns-then-x-y : goal.returns-then-x-y
 returns-then-x-y c = λ v w h k p q.
     let within : c.loop-i.i < weight v = omega (arith, c.loop-i-test.true, c.requires.2 v h p) in
-    first_less _ _ _ _ v w (c.loop-i.invariant v w h k p q) within c.if-x-y.true
-
-pub returns-then-y-x : goal.returns-then-y-x
-returns-then-y-x c = λ v w h k p q.
-    let within : c.loop-i.i < weight v = omega (arith, c.loop-i-test.true, c.requires.2 v h p) in
-    first_greater _ _ _ _ v w (c.loop-i.invariant v w h k p q) within c.if-y-x.true
+    c.cmp.ensures ∙ first_apart _ _ _ _ v w (c.loop-i.invariant v w h k p q) within c.if-x-y.true
 
 pub loop-i-preserved : goal.loop-i-preserved
 loop-i-preserved c = λ v w h k p z.
     let q = c.args in
     let i = c.loop-i.i in
     let within : i < weight v = omega (arith, c.loop-i-test.true, c.requires.2 v h p) in
-    let agree : get_or q.s.now (q.a + i) 0 ≡ get_or q.s.now (q.b + i) 0 = omega (arith, c.if-y-x.false, c.if-x-y.false) in
-    cell_passed q.s.now q.a q.b i v w (c.loop-i.invariant v w h k p z) within agree c.if-x-gt-SET.false
+    cell_passed q.s.now q.a q.b i v w (c.loop-i.invariant v w h k p z) within c.if-x-y.false c.if-x-gt-SET.false
 
 pub returns : goal.returns
 returns c = λ v w h k p z.

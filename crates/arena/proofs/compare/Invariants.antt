@@ -1,6 +1,5 @@
--- `compare`: nothing has decided so far; cells that differ decide, a set with members leaves all to `compare_whole`, and other cells that agree
+-- `compare`: nothing has decided so far; cells that differ decide, a set with members leaves all to `compare_values`, and other cells that agree
 -- are passed.
-use Rattle.arena.proofs.Base.{◌-◌}
 use Rattle.rules.specs.Values.{Value}
 use Rattle.arena.specs.Code.{ValueAt, CellsFit}
 use Rattle.arena.proofs.CompareLaws.{Undecided}
@@ -8,6 +7,3 @@ use Rattle.arena.proofs.compare.Given as goal
 
 abbrev pub invariant-loop-i : goal.invariant-loop-i
 invariant-loop-i l = (v w : Value) → ValueAt l.s l.a v → ValueAt l.s l.b w → CellsFit v → CellsFit w → Undecided l.s l.a l.b l.i v w
-
-abbrev pub decreases-loop-i : goal.decreases-loop-i
-decreases-loop-i l = l.n - l.i

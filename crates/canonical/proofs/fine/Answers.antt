@@ -4,6 +4,7 @@ use native.Mathlib.Omega.{arith}
 use lib.ListN.{length}
 use Rattle.canonical.proofs.FineValues.{end_inside, from_sets, from_other, from_members, from_set, from_fails}
 use Rattle.canonical.proofs.fine.Goals as goal
+use Rattle.canonical.proofs.fine.Goals.{else-x-ge-SET-via-then-x-ge-SET+else-not-members_fine, else-x-ge-SET-via-else-x-ge-SET}
 
 pub bounds-s-at : goal.bounds-s-at
 bounds-s-at c =
@@ -40,10 +41,10 @@ returns-then-not-members_fine c =
     from_fails c.requires.ends c.loop-i-test.true c.loop-i.invariant c.if-x-ge-SET.true
     (rw c.low.ensures.0 at c.members_fine.ensures) c.if-not-members_fine.true
 
-pub loop-i-preserved-else-not-members_fine : goal.loop-i-preserved-else-not-members_fine
-loop-i-preserved-else-not-members_fine c =
-    from_set c.requires.ends c.loop-i-test.true c.loop-i.invariant c.if-x-ge-SET.true
-    (rw c.low.ensures.0 at c.members_fine.ensures) c.if-not-members_fine.false
-
 pub loop-i-preserved : goal.loop-i-preserved
-loop-i-preserved c = from_other c.requires.ends c.loop-i-test.true c.loop-i.invariant (omega (arith, c.if-x-ge-SET.false))
+loop-i-preserved c = elim c.else-x-ge-SET.branch [
+  | else-x-ge-SET-via-then-x-ge-SET+else-not-members_fine w ↦
+      from_set c.requires.ends c.loop-i-test.true c.loop-i.invariant w.if-x-ge-SET.true
+      (rw w.low.ensures.0 at w.members_fine.ensures) w.if-not-members_fine.false
+  | else-x-ge-SET-via-else-x-ge-SET w ↦ from_other c.requires.ends c.loop-i-test.true c.loop-i.invariant (omega (arith, w.if-x-ge-SET.false))
+]

@@ -9,12 +9,12 @@ use Rattle.canonical.proofs.scalar_pair.Goals as goal
 pub bounds-s-at : goal.bounds-s-at
 bounds-s-at c = inside c.requires
 
-pub bounds-s-at-2 : goal.bounds-s-at-2
-bounds-s-at-2 c =
-    let within : c.args.at + 2 < length c.args.s.now = pair_inside c.requires c.if-s-at-ne-PAIR.false in
+pub bounds-s-at-then-s-at-eq-PAIR : goal.bounds-s-at-then-s-at-eq-PAIR
+bounds-s-at-then-s-at-eq-PAIR c =
+    let within : c.args.at + 2 < length c.args.s.now = pair_inside c.requires c.if-s-at-eq-PAIR.true in
     omega (arith, within)
 
-pub bounds-s-at-3 : goal.bounds-s-at-3
-bounds-s-at-3 c =
-    let within : c.args.at + 2 < length c.args.s.now = pair_inside c.requires c.if-s-at-ne-PAIR.false in
+pub bounds-s-at-then-s-at-eq-PAIR-2 : goal.bounds-s-at-then-s-at-eq-PAIR-2
+bounds-s-at-then-s-at-eq-PAIR-2 c =
+    let within : c.args.at + 2 < length c.args.s.now = pair_inside c.requires c.if-s-at-eq-PAIR.true in
     omega (arith, within)

@@ -23,12 +23,6 @@ decreases-each l = 4 * (length l.s.now - l.a) + 3
 abbrev pub invariant-against-loop-left : goal.invariant-against-loop-left
 invariant-against-loop-left l = (v : SomeTyped l.s l.a) (ws : SomeRun l.s l.b l.m) → Rest l.s l.j l.left (types_of v.0) ws.0
 
-abbrev pub decreases-against-loop-left : goal.decreases-against-loop-left
-decreases-against-loop-left l = l.left
-
-abbrev pub invariant-each-loop-left : goal.invariant-each-loop-left
-invariant-each-loop-left l =
-    (l.a ≤ l.i) × ((p : RunAndRun l.s l.a l.n l.b l.m) → Rest l.s l.i l.left (shared_types p.second.0) p.first.0)
-
-abbrev pub decreases-each-loop-left : goal.decreases-each-loop-left
-decreases-each-loop-left l = l.left
+abbrev pub invariant-each-loop : goal.invariant-each-loop
+invariant-each-loop l =
+    (l.a ≤ l.i) × ((p : RunAndRun l.s l.a l.n l.b l.m) → Rest l.s l.i (l.n - l.counter) (shared_types p.second.0) p.first.0)

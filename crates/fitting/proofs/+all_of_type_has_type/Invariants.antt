@@ -12,9 +12,6 @@ decreases-has_type l = 2 * (length l.s.now - l.at)
 abbrev pub decreases-all_of_type : goal.decreases-all_of_type
 decreases-all_of_type l = 2 * (length l.s.now - l.at) + 1
 
-abbrev pub invariant-all_of_type-loop-left : goal.invariant-all_of_type-loop-left
-invariant-all_of_type-loop-left l =
-    (l.at ≤ l.i) × ((p : ValuesAndType l.s l.at l.n l.row l.from) → SomeLeft l.s l.i l.left p.type.0 p.values)
-
-abbrev pub decreases-all_of_type-loop-left : goal.decreases-all_of_type-loop-left
-decreases-all_of_type-loop-left l = l.left
+abbrev pub invariant-all_of_type-loop : goal.invariant-all_of_type-loop
+invariant-all_of_type-loop l =
+    (l.at ≤ l.i) × ((p : ValuesAndType l.s l.at l.n l.row l.from) → SomeLeft l.s l.i (l.n - l.counter) p.type.0 p.values)

@@ -5,12 +5,12 @@ use Rattle.fitting.proofs.Cells.{as_set}
 use Rattle.fitting.proofs.Tests.{inner, fits_alike_sets, inner_agree, set_here, set_not}
 use Rattle.fitting.proofs.alike_sets.Goals as goal
 
-pub returns-then-not-is_set : goal.returns-then-not-is_set
-returns-then-not-is_set c =
+pub returns-else-is_set : goal.returns-else-is_set
+returns-else-is_set c =
     λ v w h k.
-    sym (fits_alike_sets v w ∙ meets_sym (inner v) (inner w) ∙ set_not c.is_set.ensures h c.if-not-is_set.true (inner w))
+    c.if-is_set.false ∙ sym (fits_alike_sets v w ∙ meets_sym (inner v) (inner w) ∙ set_not c.is_set.ensures h c.if-is_set.false (inner w))
 
-pub returns : goal.returns
-returns c =
-    λ v w h k. let (vs, e, _) = as_set h (set_here c.is_set.ensures (v, h) c.if-not-is_set.false).is_set in
+pub returns-then-is_set : goal.returns-then-is_set
+returns-then-is_set c =
+    λ v w h k. let (vs, e, _) = as_set h (set_here c.is_set.ensures (v, h) c.if-is_set.true).is_set in
     c.agree.ensures v w h k ∙ rw (fits_alike_sets v w, e) (inner_agree vs w)

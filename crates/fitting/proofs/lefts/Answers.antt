@@ -29,12 +29,12 @@ returns-then-not-agree c = λ p.
     let first = pairs_first t.run (t.pairs c.requires.pairs) c.loop-left-test.true in
     rest_no (c.loop-left.invariant p) c.loop-left-test.true (left_meets first p.second c.agree.ensures) c.if-not-agree.true
 
-pub returns-then-left-eq1 : goal.returns-then-left-eq1
-returns-then-left-eq1 c = λ p.
+pub returns-then-left-eq0 : goal.returns-then-left-eq0
+returns-then-left-eq0 c = λ p.
     let t = c.loop-left.invariant c.requires in
     let first = pairs_first t.run (t.pairs c.requires.pairs) c.loop-left-test.true in
     let g = left_meets first p.second c.agree.ensures in
-    sym c.if-not-agree.false ∙ rest_last (c.loop-left.invariant p) c.loop-left-test.true g c.if-left-eq1.true
+    sym c.if-not-agree.false ∙ rest_last (c.loop-left.invariant p) c.loop-left-test.true g (omega (arith, c.if-left-eq0.true))
 
 pub end_of-i-requires : goal.end_of-i-requires
 end_of-i-requires c = some_at (rest_first (c.loop-left.invariant c.requires) c.loop-left-test.true)

@@ -6,6 +6,3 @@ use Rattle.fitting.proofs.lefts.Given as goal
 
 abbrev pub invariant-loop-left : goal.invariant-loop-left
 invariant-loop-left l = (p : PairsAndOne l.s l.a l.n l.b) → Rest l.s l.i l.left (types_of p.second.0 ×ˢ every) p.values
-
-abbrev pub decreases-loop-left : goal.decreases-loop-left
-decreases-loop-left l = l.left

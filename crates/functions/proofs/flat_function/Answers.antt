@@ -1,55 +1,25 @@
 -- `flat_function`: of the pairs that are left none shares its first part with the next one exactly where none of all does.
-use Rattle.sets.proofs.Base.{◌+◌, ◌≤◌, arith, length}
-use Rattle.functions.proofs.ImageLaws.{checking_end, checking_inside, flat_shared, flat_next}
+use Rattle.sets.proofs.Base.{arith}
+use Rattle.functions.proofs.ImageLaws.{checking_end, flat_inside, flat_start, flat_shared, flat_next}
 use Rattle.functions.proofs.flat_function.Goals as goal
 
-pub overflow_add-i : goal.overflow_add-i
-overflow_add-i c =
-    let inside : c.loop-left.i + 6 ≤ length c.args.s.now = let q = c.requires in
-    omega (arith, c.loop-left-test.true, checking_inside (c.loop-left.invariant _ _ q.2 q.3)) in
-    omega (arith, inside)
+pub loop-k-init : goal.loop-k-init
+loop-k-init c = record { inside = flat_inside c.requires.2 c.requires.3; checked = λ top vs f p. flat_start f p (omega arith) (omega arith) }
 
-pub offset_bounds-s-i : goal.offset_bounds-s-i
-offset_bounds-s-i c =
-    let inside : c.loop-left.i + 6 ≤ length c.args.s.now = let q = c.requires in
-    omega (arith, c.loop-left-test.true, checking_inside (c.loop-left.invariant _ _ q.2 q.3)) in
-    omega (arith, inside)
+pub returns-then-s-next : goal.returns-then-s-next
+returns-then-s-next c = λ top vs f p.
+    let l = c.loop-k-test.true in
+    let some = c.loop-k.auto.k in
+    flat_shared (c.loop-k.invariant.checked top vs f p) (omega arith) (omega arith) (omega arith) c.if-s-next.true
 
-pub bounds-s-i : goal.bounds-s-i
-bounds-s-i c =
-    let inside : c.loop-left.i + 6 ≤ length c.args.s.now = let q = c.requires in
-    omega (arith, c.loop-left-test.true, checking_inside (c.loop-left.invariant _ _ q.2 q.3)) in
-    omega (arith, inside)
-
-pub overflow_add-i-in-loop-left : goal.overflow_add-i-in-loop-left
-overflow_add-i-in-loop-left c =
-    let inside : c.loop-left.i + 6 ≤ length c.args.s.now = let q = c.requires in
-    omega (arith, c.loop-left-test.true, checking_inside (c.loop-left.invariant _ _ q.2 q.3)) in
-    omega (arith, inside)
-
-pub overflow_add-i-in-loop-left-2 : goal.overflow_add-i-in-loop-left-2
-overflow_add-i-in-loop-left-2 c =
-    let inside : c.loop-left.i + 6 ≤ length c.args.s.now = let q = c.requires in
-    omega (arith, c.loop-left-test.true, checking_inside (c.loop-left.invariant _ _ q.2 q.3)) in
-    omega (arith, inside)
-
-pub offset_bounds-s-i-in-loop-left : goal.offset_bounds-s-i-in-loop-left
-offset_bounds-s-i-in-loop-left c =
-    let inside : c.loop-left.i + 6 ≤ length c.args.s.now = let q = c.requires in
-    omega (arith, c.loop-left-test.true, checking_inside (c.loop-left.invariant _ _ q.2 q.3)) in
-    omega (arith, inside)
-
-pub bounds-s-i-in-loop-left : goal.bounds-s-i-in-loop-left
-bounds-s-i-in-loop-left c =
-    let inside : c.loop-left.i + 6 ≤ length c.args.s.now = let q = c.requires in
-    omega (arith, c.loop-left-test.true, checking_inside (c.loop-left.invariant _ _ q.2 q.3)) in
-    omega (arith, inside)
-
-pub returns-then-s-i : goal.returns-then-s-i
-returns-then-s-i c = λ top vs f p. flat_shared (c.loop-left.invariant top vs f p) c.loop-left-test.true c.if-s-i.true
-
-pub loop-left-preserved : goal.loop-left-preserved
-loop-left-preserved c = λ top vs f p. flat_next (c.loop-left.invariant top vs f p) c.loop-left-test.true c.if-s-i.false
+pub loop-k-preserved : goal.loop-k-preserved
+loop-k-preserved c = record {
+  inside = c.loop-k.invariant.inside;
+  checked = λ top vs f p.
+      let l = c.loop-k-test.true in
+      let some = c.loop-k.auto.k in
+      flat_next (c.loop-k.invariant.checked top vs f p) (omega arith) (omega arith) (omega arith) c.if-s-next.false (omega arith) (omega arith);
+}
 
 pub returns : goal.returns
-returns c = λ top vs f p. checking_end (c.loop-left.invariant top vs f p) c.loop-left-test.false
+returns c = λ top vs f p. checking_end (c.loop-k.invariant.checked top vs f p) (omega (arith, c.loop-k-test.false))

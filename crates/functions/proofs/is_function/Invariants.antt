@@ -1,11 +1,8 @@
 -- `is_function`: of the pairs that are left none shares its first part with the next one exactly where none of all does.
-use Rattle.sets.proofs.Base.{ℕ}
+use Rattle.sets.proofs.Base.{ℕ, ◌+◌, ◌-◌}
 use Rattle.functions.proofs.Terms.{Values, Front, AllPairs}
 use Rattle.functions.proofs.ImageLaws.{Checking}
 use Rattle.functions.proofs.is_function.Given as goal
 
-abbrev pub invariant-loop-left : goal.invariant-loop-left
-invariant-loop-left l = (top : ℕ) (vs : Values) → Front l.s top l.at l.n vs → AllPairs vs → Checking (λ _. Unit {0}) l.s top vs l.i l.left
-
-abbrev pub decreases-loop-left : goal.decreases-loop-left
-decreases-loop-left l = l.left
+abbrev pub invariant-loop : goal.invariant-loop
+invariant-loop l = (top : ℕ) (vs : Values) → Front l.s top l.at l.n vs → AllPairs vs → Checking (λ _. Unit {0}) l.s top vs l.i (l.n + 1 - l.counter)

@@ -4,10 +4,10 @@ use Rattle.merging.proofs.Terms.{Values, members, comparisons, Front}
 use Rattle.merging.proofs.CountLaws.{Counting}
 use Rattle.merging.proofs.comparisons.Given as goal
 
-abbrev pub invariant-loop-left : goal.invariant-loop-left
-invariant-loop-left l =
-    (top : ℕ) (vs ws : Values) → Front l.s top l.a l.m vs → Front l.s top l.b l.n ws →
-    Counting l.s top l.i l.left l.j l.others l.turns (comparisons (members vs) (members ws))
+abbrev pub invariant-loop-f : goal.invariant-loop-f
+invariant-loop-f l =
+    (top : ℕ) (vs ws : Values) → Front l.s top l.fn.fronts.a l.fn.fronts.m vs → Front l.s top l.fn.fronts.b l.fn.fronts.n ws →
+    Counting l.s top l.f.a l.f.m l.f.b l.f.n l.turns (comparisons (members vs) (members ws))
 
-abbrev pub decreases-loop-left : goal.decreases-loop-left
-decreases-loop-left l = l.left + l.others
+abbrev pub decreases-loop-f : goal.decreases-loop-f
+decreases-loop-f l = l.f.m + l.f.n

@@ -14,20 +14,20 @@ pub merge_cells-requires : goal.merge_cells-requires
 merge_cells-requires c =
     let q = c.requires in
     record {
-      rows = two_rows q.0.1 q.1.1 c.low-m.ensures.0 c.low-n.ensures.0 (c.of_cells.ensures c.if-of_cells.true)
+      rows = two_rows q.0.1 q.1.1 c.low.ensures.0 c.low-2.ensures.0 (c.of_cells.ensures c.if-of_cells.true)
           (c.of_cells-then-of_cells.ensures c.if-of_cells-2.true);
       room = q.2;
     }
 
 pub returns-then-of_cells-2 : goal.returns-then-of_cells-2
 returns-then-of_cells-2 c =
-    of_sets c.low-m.ensures.0 c.low-n.ensures.0 _ _ c.merge_cells.ensures
+    of_sets c.low.ensures.0 c.low-2.ensures.0 _ _ c.merge_cells.ensures
 
 pub walk_merge-requires : goal.walk_merge-requires
 walk_merge-requires c =
     let q = c.requires in
-    record { runs = two_runs q.0.1 q.1.1 c.low-m.ensures.0 c.low-n.ensures.0; room = q.2 }
+    record { runs = two_runs q.0.1 q.1.1 c.low.ensures.0 c.low-2.ensures.0; room = q.2 }
 
 pub returns : goal.returns
 returns c =
-    of_sets c.low-m.ensures.0 c.low-n.ensures.0 _ _ c.walk_merge.ensures
+    of_sets c.low.ensures.0 c.low-2.ensures.0 _ _ c.walk_merge.ensures

@@ -14,11 +14,11 @@ front-q-requires c =
     let r = c.requires.rows in
     (cells_row r.runs.on_right r.right, λ k. omega (arith, r.left.inside))
 
-pub put-o-requires : goal.put-o-requires
-put-o-requires c = first_put c.requires c.front-p.ensures c.front-q.ensures
+pub put-left-requires : goal.put-left-requires
+put-left-requires c = first_put c.requires c.front-p.ensures c.front-q.ensures
 
-pub put-o2-requires : goal.put-o2-requires
-put-o2-requires c = second_put c.requires c.front-p.ensures c.front-q.ensures c.put-o.ensures
+pub put-right-requires : goal.put-right-requires
+put-right-requires c = second_put c.requires c.front-p.ensures c.front-q.ensures c.put-left.ensures
 
 pub returns : goal.returns
-returns c = merge_start c.requires c.front-p.ensures c.front-q.ensures c.put-o.ensures c.put-o2.ensures
+returns c = merge_start c.requires c.front-p.ensures c.front-q.ensures c.put-left.ensures c.put-right.ensures

@@ -1,7 +1,9 @@
--- `put`: a run copied behind what has been built.
-use Rattle.sets.proofs.Base.{arith}
-use Rattle.merging.proofs.BuildLaws.{put_kept}
+-- `put`: a run copied behind what has been built, if it is kept.
+use Rattle.merging.proofs.BuildLaws.{put_copied}
 use Rattle.merging.proofs.put.Goals as goal
+use Rattle.merging.proofs.put.Goals.{then-keep, else-keep}
 
-pub returns-then-keep : goal.returns-then-keep
-returns-then-keep c = rw c.if-keep.true (put_kept c.requires c.copy.ensures (omega arith) (omega arith))
+pub returns : goal.returns
+returns c =
+    put_copied _ c.requires c.copy_if-to.ensures
+    (elim c.if-keep.branch [ then-keep w ↦ rw (w.more-is, w.if-keep.true) | else-keep w ↦ rw (w.more-is, w.if-keep.false) ])

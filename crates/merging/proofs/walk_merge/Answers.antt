@@ -5,12 +5,6 @@ use Rattle.merging.proofs.BuildLaws.{walking_start, walking_step, walking_next, 
 use Rattle.merging.proofs.walk_merge.Goals as goal
 use Rattle.merging.proofs.walk_merge.Goals.{then-loop-w-test+then-w-gt0+else-w-limit, then-loop-w-test+else-w-gt0, else-loop-w-test}
 
-pub overflow_add-limit : goal.overflow_add-limit
-overflow_add-limit c = omega (arith, c.requires.room)
-
-pub overflow_add-w : goal.overflow_add-w
-overflow_add-w c = omega (arith, c.requires.room)
-
 pub loop-w-init : goal.loop-w-init
 loop-w-init c = walking_start c.requires.room
 
@@ -18,9 +12,6 @@ pub step-w-requires : goal.step-w-requires
 step-w-requires c =
     let q = c.requires in
     walking_step c.loop-w.invariant q.runs q.room c.loop-w-test.true c.if-w-gt0.true c.if-w-limit.true
-
-pub loop-w-smaller : goal.loop-w-smaller
-loop-w-smaller c = c.step-w.ensures.fewer
 
 pub loop-w-preserved : goal.loop-w-preserved
 loop-w-preserved c = walking_next c.loop-w.invariant c.requires.runs c.requires.room c.step-w.ensures
@@ -30,7 +21,7 @@ comparisons-more-requires c = walking_left c.loop-w.invariant c.requires.runs c.
 
 pub finish-requires : goal.finish-requires
 finish-requires c =
-    let over : let w = c.loop-w.w in (w.m ≡ 0) ⊎ ((w.n ≡ 0) ⊎ (c.args.top + 256 < w.to)) = elim c.loop-w-test.branch [
+    let over : let w = c.loop-w.w in (w.fronts.m ≡ 0) ⊎ ((w.fronts.n ≡ 0) ⊎ (c.args.top + 256 < w.out.to)) = elim c.loop-w-test.branch [
       | then-loop-w-test+then-w-gt0+else-w-limit x ↦ inr (inr (omega (arith, x.if-w-limit.false)))
       | then-loop-w-test+else-w-gt0 x ↦ inr (inl (omega (arith, x.if-w-gt0.false)))
       | else-loop-w-test x ↦ inl (omega (arith, x.loop-w-test.false))

@@ -4,7 +4,8 @@ use Rattle.merging.proofs.Terms.{Walking}
 use Rattle.merging.proofs.walk_merge.Given as goal
 
 abbrev pub invariant-loop-w : goal.invariant-loop-w
-invariant-loop-w l = Walking l.left l.both l.right l.initial.s l.a l.m l.b l.n l.top l.s l.w
+invariant-loop-w l =
+    Walking l.keeps.left l.keeps.both l.keeps.right l.initial.s l.fn.fronts.a l.fn.fronts.m l.fn.fronts.b l.fn.fronts.n l.top l.s l.w
 
 abbrev pub decreases-loop-w : goal.decreases-loop-w
-decreases-loop-w l = l.w.m + l.w.n
+decreases-loop-w l = l.w.fronts.m + l.w.fronts.n

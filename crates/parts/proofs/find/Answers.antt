@@ -1,14 +1,17 @@
 -- `find`: the members passed are less than the value, so what is left of them decides.
-use Rattle.products.proofs.Base.{arith}
+use Rattle.products.proofs.Base.{refl, arith}
 use Rattle.arena.proofs.FrontLaws.{value_some}
 use Rattle.parts.proofs.InsertLaws.{finding_end, finding_some, finding_on, finding_here, finding_next}
 use Rattle.parts.proofs.find.Goals as goal
 
-pub compare-c-requires : goal.compare-c-requires
-compare-c-requires c = let g = c.requires in (value_some _ _ _ _ g.below, finding_some g (c.loop-i.invariant g) c.loop-i-test.true, g.ends)
+pub compare-requires : goal.compare-requires
+compare-requires c = let g = c.requires in (value_some _ _ _ _ g.below, finding_some g (c.loop-i.invariant g) c.loop-i-test.true, g.ends)
 
-pub returns-then-c-lt-GREATER : goal.returns-then-c-lt-GREATER
-returns-then-c-lt-GREATER c = λ g. finding_here g _ c.compare-c.ensures (c.loop-i.invariant g) c.loop-i-test.true (omega (arith, c.if-c-lt-GREATER.true))
+pub returns-in-Less : goal.returns-in-Less
+returns-in-Less c = λ g. finding_here g (c.loop-i.invariant g) c.loop-i-test.true _ c.in-Less.ensures refl
+
+pub returns-in-Equal : goal.returns-in-Equal
+returns-in-Equal c = λ g. finding_here g (c.loop-i.invariant g) c.loop-i-test.true _ c.in-Equal.ensures refl
 
 pub end_of-i-requires : goal.end_of-i-requires
 end_of-i-requires c = let g = c.requires in finding_some g (c.loop-i.invariant g) c.loop-i-test.true
@@ -19,9 +22,7 @@ loop-i-smaller c =
     omega (arith, finding_on g (c.loop-i.invariant g) c.loop-i-test.true _ c.end_of-i.ensures)
 
 pub loop-i-preserved : goal.loop-i-preserved
-loop-i-preserved c =
-    λ g.
-    finding_next g _ c.compare-c.ensures (c.loop-i.invariant g) c.loop-i-test.true (omega (arith, c.if-c-lt-GREATER.false)) _ c.end_of-i.ensures
+loop-i-preserved c = λ g. finding_next g (c.loop-i.invariant g) c.loop-i-test.true c.in-Greater.ensures _ c.end_of-i.ensures
 
 pub returns : goal.returns
 returns c = λ g. finding_end g (c.loop-i.invariant g) c.loop-i-test.false

@@ -1,17 +1,20 @@
 -- `all_subsets`: mask by mask. The array is the list of masks.
-use Rattle.products.proofs.Base.{ℕ, List, ap, get_or}
-use Rattle.powers.proofs.PowerLaws.{all_pre, all_next, all_end}
+use Rattle.products.proofs.Base.{refl}
+use Rattle.powers.proofs.PowerLaws.{all_pre, all_next, all_put, all_passed, all_end}
 use Rattle.powers.proofs.all_subsets.Goals as goal
+use Rattle.powers.proofs.all_subsets.Goals.{then-mask-p, else-mask-p}
 
 pub subset-end-requires : goal.subset-end-requires
-subset-end-requires c = all_pre c.requires c.loop-j.j (c.loop-j.invariant.1 c.requires)
+subset-end-requires c = all_pre c.requires c.loop-mask.mask-index (c.loop-mask.invariant c.requires)
 
--- The subset has been put in p, in the turn t.
-pub loop-j-preserved : goal.loop-j-preserved
-loop-j-preserved c =
-    let i = c.loop-j.invariant in
-    let mask = ap (λ (bits : List ℕ). get_or bits c.loop-j.j 0) i.0 in
-    (i.0, λ g. all_next g _ (i.1 g) _ _ _ c.loop-j-test.true mask c.subset-end.ensures)
+pub loop-mask-preserved : goal.loop-mask-preserved
+loop-mask-preserved c = λ g.
+    let i = c.loop-mask.mask-index in
+    let h = c.loop-mask.invariant g in
+    elim c.if-mask-p.branch [
+      | then-mask-p w ↦ rw (w.s-is, w.end-is) (all_next g i h _ _ _ c.loop-mask-test.true refl (all_put g i h w.if-mask-p.true w.subset-end.ensures))
+      | else-mask-p w ↦ rw (w.s-is, w.end-is) (all_next g i h _ _ _ c.loop-mask-test.true refl (all_passed g i h w.if-mask-p.false))
+    ]
 
 pub returns : goal.returns
-returns c = λ g. all_end g _ (c.loop-j.invariant.1 g) c.loop-j-test.false
+returns c = λ g. all_end g c.loop-mask.mask-index (c.loop-mask.invariant g) c.loop-mask-test.false

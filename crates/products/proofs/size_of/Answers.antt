@@ -7,4 +7,4 @@ pub bounds-s-a : goal.bounds-s-a
 bounds-s-a c = set_inside _ _ _ _ c.requires.1.1
 
 pub returns : goal.returns
-returns c = size_is c.requires c.end_of.ensures c.low-n.ensures.0
+returns c = size_is c.requires c.end_of.ensures c.low.ensures.0

@@ -3,7 +3,7 @@ use Rattle.sets.proofs.RowLaws.{Halving}
 use Rattle.sets.proofs.lower_bound.Given as goal
 
 abbrev pub invariant-loop-left : goal.invariant-loop-left
-invariant-loop-left l = Halving l.s l.at l.step l.n l.x l.from l.left
+invariant-loop-left l = Halving l.s l.row.at l.row.step l.row.n l.x l.from l.left
 
 abbrev pub decreases-loop-left : goal.decreases-loop-left
 decreases-loop-left l = l.left

@@ -2,8 +2,8 @@
 use Rattle.sets.proofs.TurnLaws.{RowWalk}
 use Rattle.sets.proofs.walk_cells.Given as goal
 
-abbrev pub invariant-loop-left : goal.invariant-loop-left
-invariant-loop-left l = RowWalk l.s l.a l.m l.b l.n l.i l.left l.j l.others
+abbrev pub invariant-loop-f : goal.invariant-loop-f
+invariant-loop-f l = RowWalk l.s l.fn.rows.a l.fn.rows.m l.fn.rows.b l.fn.rows.n l.f.a l.f.m l.f.b l.f.n
 
-abbrev pub decreases-loop-left : goal.decreases-loop-left
-decreases-loop-left l = l.others
+abbrev pub decreases-loop-f : goal.decreases-loop-f
+decreases-loop-f l = l.f.n

@@ -3,30 +3,30 @@ use Rattle.sets.proofs.Base.{arith, not-true, not-false}
 use Rattle.sets.proofs.TurnLaws.{including_end, including_short, two_fronts, including_turn}
 use Rattle.sets.proofs.walk_included.Goals as goal
 
-pub returns-then-others-eq0 : goal.returns-then-others-eq0
-returns-then-others-eq0 c = λ vs ws f g. including_short (c.loop-left.invariant vs ws f g) c.loop-left-test.true c.if-others-eq0.true
+pub returns-then-f-eq0 : goal.returns-then-f-eq0
+returns-then-f-eq0 c = λ vs ws f g. including_short (c.loop-f.invariant vs ws f g) c.loop-f-test.true c.if-f-eq0.true
 
 pub turn_at-t-requires : goal.turn_at-t-requires
 turn_at-t-requires c =
     let q = c.requires in
-    let including = c.loop-left.invariant _ _ q.on_left q.on_right in
-    let h = including in two_fronts h.on_left h.on_right c.loop-left-test.true (omega (arith, c.if-others-eq0.false))
+    let including = c.loop-f.invariant _ _ q.on_left q.on_right in
+    let h = including in two_fronts h.on_left h.on_right c.loop-f-test.true (omega (arith, c.if-f-eq0.false))
 
 pub returns-then-not-t : goal.returns-then-not-t
 returns-then-not-t c =
     λ vs ws f g.
-    (including_turn (c.loop-left.invariant vs ws f g) c.loop-left-test.true c.if-others-eq0.false c.turn_at-t.ensures).1 (not-true _ c.if-not-t.true)
+    (including_turn (c.loop-f.invariant vs ws f g) c.loop-f-test.true c.if-f-eq0.false c.turn_at-t.ensures).1 (not-true _ c.if-not-t.true)
 
-pub loop-left-smaller : goal.loop-left-smaller
-loop-left-smaller c =
+pub loop-f-smaller : goal.loop-f-smaller
+loop-f-smaller c =
     let q = c.requires in
-    let including = c.loop-left.invariant _ _ q.on_left q.on_right in
-    ((including_turn including c.loop-left-test.true c.if-others-eq0.false c.turn_at-t.ensures).0 (not-false _ c.if-not-t.false)).1
+    let including = c.loop-f.invariant _ _ q.on_left q.on_right in
+    ((including_turn including c.loop-f-test.true c.if-f-eq0.false c.turn_at-t.ensures).0 (not-false _ c.if-not-t.false)).1
 
-pub loop-left-preserved : goal.loop-left-preserved
-loop-left-preserved c =
+pub loop-f-preserved : goal.loop-f-preserved
+loop-f-preserved c =
     λ vs ws f g.
-    ((including_turn (c.loop-left.invariant vs ws f g) c.loop-left-test.true c.if-others-eq0.false c.turn_at-t.ensures).0 (not-false _ c.if-not-t.false)).0
+    ((including_turn (c.loop-f.invariant vs ws f g) c.loop-f-test.true c.if-f-eq0.false c.turn_at-t.ensures).0 (not-false _ c.if-not-t.false)).0
 
 pub returns : goal.returns
-returns c = λ vs ws f g. including_end (c.loop-left.invariant vs ws f g) c.loop-left-test.false
+returns c = λ vs ws f g. including_end (c.loop-f.invariant vs ws f g) c.loop-f-test.false

@@ -3,8 +3,8 @@ use Rattle.sets.proofs.Base.{◌+◌}
 use Rattle.sets.proofs.TurnLaws.{Includings}
 use Rattle.sets.proofs.walk_included.Given as goal
 
-abbrev pub invariant-loop-left : goal.invariant-loop-left
-invariant-loop-left l = Includings l.s l.a l.m l.b l.n l.i l.left l.j l.others
+abbrev pub invariant-loop-f : goal.invariant-loop-f
+invariant-loop-f l = Includings l.s l.fn.fronts.a l.fn.fronts.m l.fn.fronts.b l.fn.fronts.n l.f.a l.f.m l.f.b l.f.n
 
-abbrev pub decreases-loop-left : goal.decreases-loop-left
-decreases-loop-left l = l.left + l.others
+abbrev pub decreases-loop-f : goal.decreases-loop-f
+decreases-loop-f l = l.f.m + l.f.n

@@ -1,5 +1,0 @@
--- `compare_whole`: the order alone of what has been found.
-use Rattle.arena.proofs.compare_whole.Goals as goal
-
-pub returns : goal.returns
-returns c = λ v w h k p q. (c.compare_values-r.ensures v w h k p q).order
