@@ -13,7 +13,7 @@ use lib.ListN.{length, get_or, drop, length-drop}
 use lib.Seq.{get_or-drop}
 use borrow.Author.Tests.{eq-eqb, ne_eqb, lt-leb, le-leb}
 use Rattle.rules.specs.Tables.{word_at}
-use Rattle.buffer.specs.declared.Step.TheVariants.{End}
+use Rattle.std.proofs.Common.{None}
 use Rattle.laws.proofs.EndLaws.{T_true, T_false, T_and, t_leb, t_eqb}
 use Rattle.buffer.specs.Buffer.{cell_first, first_cell, arena_cell, tag_good, cell_good, GoodCell, StepTakes}
 
@@ -31,7 +31,7 @@ first_right ds = simp (T_and, t_leb, t_eqb) Iff.rfl
 pub cell_held : (bs : List ℕ) (at : ℕ) → T (cell_first (drop at bs)) → 8 ≤ length bs - at
 cell_held bs at h = omega (arith, ((first_right (drop at bs)).0 h).0, length-drop at bs)
 
-pub cell_short : (gs bs : List ℕ) (at : ℕ) → length bs < at + 8 → StepTakes gs bs at End
+pub cell_short : (gs bs : List ℕ) (at : ℕ) → length bs < at + 8 → StepTakes gs bs at None
 cell_short gs bs at l h k = omega (arith, cell_held bs at h)
 
 -- Good cells, by the tag.
@@ -71,10 +71,10 @@ module _ (gs bs : List ℕ) (at p q : ℕ) (low : p ≡ word_at bs at) (high : q
   cell_number : T (cell_first (drop at bs)) → p + 4294967296 * q ≡ first_cell (drop at bs)
   cell_number h = omega (arith, ((first_right (drop at bs)).0 h).1, words)
 
-  pub cell_bad : {r : Bool} → r ≡ cell_good gs (p + 4294967296 * q) → r ≡ false → StepTakes gs bs at End
+  pub cell_bad : {r : Bool} → r ≡ cell_good gs (p + 4294967296 * q) → r ≡ false → StepTakes gs bs at None
   cell_bad e f h k = (T_false (cell_good gs (p + 4294967296 * q))).1 (sym e ∙ f) (rw (cell_number h) k)
 
-  pub cell_marked : get_or bs (at + 4) 0 < 256 → 256 ≤ q → StepTakes gs bs at End
+  pub cell_marked : get_or bs (at + 4) 0 < 256 → 256 ≤ q → StepTakes gs bs at None
   cell_marked l h k g = omega (arith, ((first_right (drop at bs)).0 k).1, words, get_or-drop at bs 4 0)
 
   pub cell_good_law : {r : Bool} → at + 8 ≤ length bs → q < 256 → r ≡ cell_good gs (p + 4294967296 * q) → r ≡ true →

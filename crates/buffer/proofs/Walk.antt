@@ -17,7 +17,7 @@ use Rattle.rules.specs.Readable.{Readable}
 use Rattle.arena.specs.Code.{code, Stands, Same, parts_of}
 use Rattle.arena.proofs.CodeLaws.{length_code, encodable_fits}
 use Rattle.arena.proofs.Standing.{stands_append, stands_frame, same_refl, same_trans}
-use Rattle.buffer.specs.declared.Step.TheVariants.{End}
+use Rattle.std.proofs.Common.{None}
 use Rattle.buffer.specs.Buffer.{first_cell, arena_cell, cells_at_most, GoodCell, StepTakes, ReadAt}
 use Rattle.buffer.proofs.CellAt.{cell_held}
 use Rattle.buffer.proofs.GoodValues.{good_scalars}
@@ -111,7 +111,7 @@ module _ {gs bs : List ℕ} {from at left n : ℕ} {s₀ s : List ℕ} {top : �
     ahead : (cs : List ℕ) × (code v ≡ h.written ++ cs) × Ahead gs (drop at bs) left cs rest
     ahead = h.partly (code v) rest (ahead_read gs (drop from bs) v rest z (bytes_drop from bs h.bytes) e g (good_scalars gs v g))
 
-    pub walk_none : StepTakes gs bs at End → ⊥
+    pub walk_none : StepTakes gs bs at None → ⊥
     walk_none t = let o = onward ahead.2.0 ahead.2.1 l in t o.here o.good
 
     pub walk_heavy : 256 < n + left → ⊥

@@ -1,5 +1,5 @@
 -- The values buffer as a run of cells, and what reading it into the arena answers.
-use Rattle.std.specs.Prelude.{ℕ, zero, suc, ◌+◌, ◌*◌, ◌-◌, ◌/◌, ◌%◌, ◌≤◌, min, Bool, true, false, ◌&&◌, cond, List, ◌≡◌, T, eqb, leb, ltb, length, get_or, drop}
+use Rattle.std.specs.Prelude.{Option, Some, None, ℕ, zero, suc, ◌+◌, ◌*◌, ◌-◌, ◌/◌, ◌%◌, ◌≤◌, min, Bool, true, false, ◌&&◌, cond, List, ◌≡◌, T, eqb, leb, ltb, length, get_or, drop}
 use Rattle.std.proofs.Math.Option.{some}
 use Rattle.rules.specs.Tables.{word_at}
 use Rattle.rules.specs.Values.{Value, scalar, pair, set, Values, none, ◌▸◌, weight}
@@ -7,9 +7,7 @@ use Rattle.rules.specs.Cells.{scalar_good, value as value_first, good}
 use Rattle.rules.specs.Readable.{Readable}
 use Rattle.arena.specs.Code.{cell_size, ValueAt, CellsFit}
 use Rattle.buffer.specs.declared.Step.{Step}
-use Rattle.buffer.specs.declared.Step.TheVariants.{Cell, End}
 use Rattle.buffer.specs.declared.Placed.{Placed}
-use Rattle.buffer.specs.declared.Placed.TheVariants.{At, Fault}
 
 -- A run of bytes begins with a cell: eight bytes, the last three zero.
 abbrev pub cell_first : List ℕ → Bool
@@ -54,9 +52,9 @@ pub record GoodCell (gs bs : List ℕ) (at x next : ℕ) : Type 0 where
   pub good : T (cell_good gs x)
   pub behind : next ≡ at + 8
 
-abbrev pub StepTakes : List ℕ → List ℕ → ℕ → Step → Type 0
-StepTakes gs bs at (Cell x next) = GoodCell gs bs at x next.at
-StepTakes gs bs at End = T (cell_first (drop at bs)) → T (cell_good gs (first_cell (drop at bs))) → ⊥
+abbrev pub StepTakes : List ℕ → List ℕ → ℕ → Option Step → Type 0
+StepTakes gs bs at (Some step) = GoodCell gs bs at step.cell step.next.at
+StepTakes gs bs at None = T (cell_first (drop at bs)) → T (cell_good gs (first_cell (drop at bs))) → ⊥
 
 -- The most cells that n values may take: 256 each, and one for each eight bytes that are left of the buffer.
 abbrev pub cells_at_most : ℕ → ℕ → ℕ
@@ -83,6 +81,6 @@ pub record CopyReady (table bs : List ℕ) (at : ℕ) (s : List ℕ) (top : ℕ)
   pub readable : Readable table
   pub room : top + cells_at_most 1 (length bs - at) ≤ length s
 
-abbrev pub CopyAnswers : List ℕ → List ℕ → ℕ → List ℕ → ℕ → Placed → Type 0
-CopyAnswers gs bs at s top (At next end) = ReadAt gs bs at s top next.at end
-CopyAnswers gs bs at s top Fault = Unread gs bs at
+abbrev pub CopyAnswers : List ℕ → List ℕ → ℕ → List ℕ → ℕ → Option Placed → Type 0
+CopyAnswers gs bs at s top (Some placed) = ReadAt gs bs at s top placed.next.at placed.end
+CopyAnswers gs bs at s top None = Unread gs bs at

@@ -11,8 +11,8 @@ use lib.Dec.{eqb}
 use lib.ListN.{length, get_or}
 use borrow.Author.Tests.{eq-eqb, ne_eqb}
 use Rattle.rules.specs.Types.{type_of_row}
-use Rattle.rules.specs.Cells.{no_value, values_in}
-use Rattle.rules.specs.Ends.{all_below, done_with}
+use Rattle.rules.specs.Cells.{no_value, values_in, values_from}
+use Rattle.rules.specs.Ends.{all_below, done_with, refused}
 use Rattle.rules.specs.Tables.{table_of, identifier_count}
 use Rattle.rules.specs.Reading.{reading}
 use Rattle.rules.specs.Readable.{Readable}
@@ -23,14 +23,10 @@ use Rattle.laws.proofs.FitsLaws.{has_type_right}
 use Rattle.laws.proofs.ReadingLaws.{reading_right}
 use Rattle.laws.proofs.TableLaws.{binds_length}
 use Rattle.reading.specs.declared.Refusal.{Refusal}
-use Rattle.reading.specs.declared.Reading.{Reading}
-use Rattle.reading.specs.declared.Reading.TheVariants.{Refused as Unreadable}
+use Rattle.std.specs.Prelude.{Result, Err}
 use Rattle.reading.specs.Answers.{reading_of}
 use Rattle.table.specs.Layout.{WordOf}
 use Rattle.fitting.specs.Types.{OfType, Decides}
-use Rattle.buffer.specs.declared.Loaded.{Loaded}
-use Rattle.buffer.specs.declared.Loaded.TheVariants.{All, Refused}
-use Rattle.buffer.specs.Loaded.{Loads}
 use Rattle.conforms.specs.Conforming.{row_at, free_has, conforming}
 use Rattle.conforms.specs.Rows.{TypeRow, NameReady, NameHas, SheetFits, LoadedFrom, ValuesLoaded, LoadedConform}
 use Rattle.conforms.proofs.RowLaws.{some_left, type_there}
@@ -67,11 +63,10 @@ module _ {bs : List ℕ} (readable : Readable bs) (sheet : List ℕ) where
   unfolding conforming
   table_read buffer = rw ((reading_right bs).1 readable)
 
-  pub refused_not : (buffer s env : List ℕ) (top : ℕ) (a : Loaded) {x : ℕ} → Loads (table_of bs).sizes (table_of bs).binds buffer s env top a →
-      a ≡ Refused x → false ≡ conforming bs sheet buffer
+  pub refused_not : (buffer : List ℕ) {x : ℕ} → values_from (table_of bs).sizes (table_of bs).binds 0 buffer ≡ refused 14 x →
+      false ≡ conforming bs sheet buffer
   unfolding values_in
-  refused_not buffer s env top a l e =
-      rw (table_read buffer, subst (Loads (table_of bs).sizes (table_of bs).binds buffer s env top) e l) (sym (and-false sized))
+  refused_not buffer e = rw (table_read buffer, e) (sym (and-false sized))
 
   pub misfit_not : {s env : List ℕ} → length sheet ≢ sheet_length (table_of bs) → LoadedConform bs s env sheet false
   misfit_not n buffer top end b = rw (table_read buffer, ne_eqb (length sheet) (sheet_length (table_of bs)) n) refl
@@ -114,13 +109,8 @@ module _ {bs s env sheet : List ℕ} {x at : ℕ} (h : Named bs env sheet x at) 
     pub have_more : q ≡ true → HaveBelow bs s env sheet x true → HaveBelow bs s env sheet (x + 1) true
     have_more f g buffer top end b = rw (add-one x, ← name_of b, f) (g buffer top end b)
 
--- Values that refusal 14 has passed.
-pub loads_all : (bs buffer s env : List ℕ) (top : ℕ) (a : Loaded) {end : ℕ} → Loads (table_of bs).sizes (table_of bs).binds buffer s env top a → a ≡ All end →
-    LoadedFrom bs buffer s env top end
-loads_all bs buffer s env top a l e = subst (Loads (table_of bs).sizes (table_of bs).binds buffer s env top) e l
-
 -- A table that is not readable.
-pub unread_not : (bs sheet buffer : List ℕ) (a : Reading) {x : Refusal} → reading_of bs a ≡ reading bs → a ≡ Unreadable x →
+pub unread_not : (bs sheet buffer : List ℕ) (a : Result (Unit {0}) Refusal) {x : Refusal} → reading_of bs a ≡ reading bs → a ≡ Err x →
     false ≡ conforming bs sheet buffer
 unfolding conforming
-unread_not bs sheet buffer a e f = rw (← subst (λ (b : Reading). reading_of bs b ≡ reading bs) f e) refl
+unread_not bs sheet buffer a e f = rw (← subst (λ (b : Result (Unit {0}) Refusal). reading_of bs b ≡ reading bs) f e) refl

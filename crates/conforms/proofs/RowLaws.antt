@@ -11,7 +11,7 @@ use native.Mathlib.Omega.{arith}
 use native.Mathlib.Numerals.{add-one}
 use lib.Dec.{T, eqb, leb}
 use borrow.Author.Tests.{ne_eqb, lt-leb}
-use lib.ListN.{length, get_or, take, drop, length-take, length-drop}
+use lib.ListN.{length, get_or, drop, length-take, length-drop, drop_of_length-le}
 use lib.Seq.{drop-cons, get_or-take, get_or-drop}
 use Rattle.rules.specs.Types.{Ty, G, code_before, types_in, only_type, type_of_row}
 use Rattle.rules.proofs.TypeLaws.{row_length, type_of_row_right}
@@ -84,44 +84,35 @@ one_type : (sheet : List ℕ) (p : ℕ) → TypeRow sheet p ↔ Counted (types_i
 unfolding type_of_row
 one_type sheet p = let o = only (types_in (row_at sheet p)) in (λ x. o.0 (x.type, x.read), λ h. let (t, e) = o.1 h in record { type = t; read = e })
 
--- `is_row` has read the row of p up to i: it is that of a type exactly where the bytes from i on are read as `left` types.
-abbrev rest : List ℕ → ℕ → ℕ → Option (List Ty)
-rest sheet end i = types_in (take (end - i) (drop i sheet))
+-- The first i bytes of the row of p have been read: it is that of a type exactly where the bytes behind them are read as `left` types.
+pub record Begun (sheet : List ℕ) (p : ℕ) (row : List ℕ) (i left : ℕ) : Type 0 where
+  pub few : left ≤ i + 1
+  pub same : TypeRow sheet p ↔ Counted (types_in (drop i row)) left
 
-pub record Begun (sheet : List ℕ) (p end i left : ℕ) : Type 0 where
-  pub inside : end ≤ length sheet
-  pub to_end : i ≤ end
-  pub few : left + end ≤ i + 65
-  pub same : TypeRow sheet p ↔ Counted (rest sheet end i) left
+pub begun_start : {sheet : List ℕ} {p : ℕ} {row : List ℕ} → row ≡ row_at sheet p → Begun sheet p row 0 1
+begun_start {sheet} {p} e = rw e (record { few = omega arith; same = one_type sheet p })
 
-pub begun_start : {sheet : List ℕ} {p : ℕ} → 64 * p + 64 ≤ length sheet → Begun sheet p (64 * p + 64) (64 * p) 1
-begun_start {sheet} {p} l =
-    let e : 64 * p + 64 - 64 * p ≡ 64 = omega arith in
-    record { inside = l; to_end = omega arith; few = omega arith; same = rw e (one_type sheet p) }
-
-module _ {sheet : List ℕ} {p end i left : ℕ} (b : Begun sheet p end i left) where
-  module _ (l : i < end) where
-    goes : Counted (rest sheet end i) left ↔ (T (goes_on (get_or sheet i 0) left) × Counted (rest sheet end (i + 1)) (left_behind (get_or sheet i 0) left))
+module _ {sheet : List ℕ} {p : ℕ} {row : List ℕ} {i left : ℕ} (b : Begun sheet p row i left) where
+  module _ (l : i < length row) where
+    goes : Counted (types_in (drop i row)) left ↔ (T (goes_on (get_or row i 0) left)
+        × Counted (types_in (drop (i + 1) row)) (left_behind (get_or row i 0) left))
     unfolding types_in
     goes =
-        let e : end - i ≡ suc (end - (i + 1)) = omega arith in
-        let d : drop i sheet ≡ get_or sheet i 0 ∷ drop (i + 1) sheet = drop-cons sheet i 0 (omega (arith, b.inside)) ∙ rw (add-one i) in
-        rw (e, d) (counts (get_or sheet i 0) (rest sheet end (i + 1)) left)
+        let d : drop i row ≡ get_or row i 0 ∷ drop (i + 1) row = drop-cons row i 0 l ∙ rw (add-one i) in
+        rw d (counts (get_or row i 0) (types_in (drop (i + 1) row)) left)
 
-    pub begun_stops : goes_on (get_or sheet i 0) left ≡ false → TypeRow sheet p → ⊥
+    pub begun_stops : goes_on (get_or row i 0) left ≡ false → TypeRow sheet p → ⊥
     begun_stops e x = (T_false _).1 e (goes.0 (b.same.0 x)).0
 
-    pub begun_step : {n : ℕ} → goes_on (get_or sheet i 0) left ≡ true → n ≡ left_behind (get_or sheet i 0) left → Begun sheet p end (i + 1) n
+    pub begun_step : {n : ℕ} → goes_on (get_or row i 0) left ≡ true → n ≡ left_behind (get_or row i 0) left → Begun sheet p row (i + 1) n
     begun_step k e = rw e (record {
-      inside = b.inside;
-      to_end = omega arith;
-      few = omega (arith, b.few, behind_few (get_or sheet i 0) left);
+      few = omega (arith, b.few, behind_few (get_or row i 0) left);
       same = Iff.trans b.same (λ x. (goes.0 x).1, λ x. goes.1 ((T_true _).1 k, x));
     })
 
-  pub begun_end : end ≤ i → TypeRow sheet p ↔ ◌≡◌ {A = ℕ} 0 left
+  pub begun_end : length row ≤ i → TypeRow sheet p ↔ ◌≡◌ {A = ℕ} 0 left
   unfolding types_in
-  begun_end l = let e : end - i ≡ 0 = omega arith in rw e at b.same
+  begun_end l = rw (drop_of_length-le row l) at b.same
 
 -- The row of a place has 64 bytes; where it is that of a type, the type's codes stand there.
 pub row_long : (sheet : List ℕ) (p : ℕ) → 64 * p + 64 ≤ length sheet → length (row_at sheet p) ≡ 64

@@ -11,30 +11,21 @@ ghost use Rattle.conforms.specs.Conforming.{conforming};
 ghost use Rattle.conforms.specs.Rows.{is_code, goes_on, left_behind, TypeRow, NameReady, NameHas};
 ghost use Rattle.conforms.specs.Rows.{ValuesLoaded, LoadedConform};
 
-use buffer::Loaded;
-use reading::Reading;
+// The bytes of a place's row in a sheet, named here too: table, the crate to share it by, knows no sheets.
+const ROW: usize = 64;
 
-// Whether a byte is the code of a type's first constructor.
+// Whether a byte is the code of a type's first constructor. No enum: the C interface fixes the bytes of a sheet.
 fn is_code(c: u8) -> bool
     ensures { result ≡ is_code c }
 {
-    if c >= 16 {
-        return true;
-    }
-    if c == 0 {
-        return false;
-    }
-    c <= 4
+    matches!(c, 1..=4 | 16..=255)
 }
 
 // Whether the byte c may stand in a row where `left` types are still to be read: a code, and a zero behind the last type.
 fn goes_on(c: u8, left: usize) -> bool
     ensures { result ≡ goes_on c left }
 {
-    if left == 0 {
-        return c == 0;
-    }
-    is_code(c)
+    if left == 0 { c == 0 } else { is_code(c) }
 }
 
 // How many are then to be read behind it.
@@ -43,9 +34,10 @@ fn left_behind(c: u8, left: usize) -> usize
     ensures { result ≡ left_behind c left }
 {
     if left == 0 {
-        return 0;
+        0
+    } else {
+        left - 1 + fitting::type_parts(c)
     }
-    left - 1 + fitting::type_parts(c)
 }
 
 // Whether the row of the place p is that of a type: its codes in prefix order, and then zeros.
@@ -53,16 +45,13 @@ fn is_row(sheet: &[u8], p: usize) -> bool
     requires { 64 * p + 64 ≤ length sheet.now }
     ensures { Decides result (TypeRow sheet.now p) }
 {
-    let mut i = 64 * p;
-    let end = i + 64;
-    let mut left: usize = 1;
-    while i < end {
-        let c = sheet[i];
-        if !goes_on(c, left) {
+    let row = &sheet[ROW * p..ROW * p + ROW];
+    let mut left = 1;
+    for c in row {
+        if !goes_on(*c, left) {
             return false;
         }
-        left = left_behind(c, left);
-        i += 1;
+        left = left_behind(*c, left);
     }
     left == 0
 }
@@ -78,13 +67,7 @@ fn name_has(table: &[u8], s: &[u64], at: usize, sheet: &[u8], x: usize) -> bool
     if !is_row(sheet, x) {
         return false;
     }
-    fitting::has_type(s, at, sheet, 64 * x)
-}
-
-fn wide(x: u32) -> usize
-    ensures { result ≡ x }
-{
-    x as usize
+    fitting::has_type(s, at, sheet, ROW * x)
 }
 
 // The same for all identifiers, whose values `buffer::load` has read into the arena s from any place on; the sheet may have any length.
@@ -93,16 +76,14 @@ pub fn loaded_conform(table: &[u8], s: &[u64], env: &[u32; 32], sheet: &[u8]) ->
     ensures { LoadedConform table.now s.now env.now sheet.now result }
 {
     let count = table::identifiers(table);
-    if sheet.len() != 64 * (count + table::nodes(table)) {
+    if sheet.len() != ROW * (count + table::nodes(table)) {
         return false;
     }
-    let mut x: usize = 0;
-    while x < count {
-        let at = wide(env[x]);
+    for x in 0..count {
+        let at = env[x] as usize;
         if !name_has(table, s, at, sheet, x) {
             return false;
         }
-        x += 1;
     }
     true
 }
@@ -112,30 +93,26 @@ fn conforms_in(table: &[u8], sheet: &[u8], values: &[u8], s: &mut [u64]) -> bool
     requires { LoadReady table.now values.now s.old 0 }
     ensures { result ≡ conforming table.now sheet.now values.now }
 {
-    let loaded = buffer::load(table, values, s, 0);
-    let env = loaded.at;
-    let answer = loaded.answer;
-    match answer {
-        Loaded::Refused(_) => false,
-        Loaded::All(_) => loaded_conform(table, s, &env, sheet),
-    }
+    let Ok(loaded) = buffer::load(table, values, s, 0) else {
+        return false;
+    };
+    loaded_conform(table, s, &loaded.at, sheet)
 }
 
 // Few values, and the value of those that have none.
-fn conforms_small(table: &[u8], sheet: &[u8], values: &[u8]) -> bool
-    requires { Readable table.now × (cells_at_most (identifier_count table.now) (length values.now) < 512) }
-    ensures { result ≡ conforming table.now sheet.now values.now }
-{
-    let mut s = [0u64; 512];
-    conforms_in(table, sheet, values, &mut s)
-}
+const SMALL: usize = 512;
 
 // 32 values, each of at most 256 cells, and the value of those that have none.
-fn conforms_large(table: &[u8], sheet: &[u8], values: &[u8]) -> bool
-    requires { Readable table.now }
+const LARGE: usize = 8193;
+
+// The same in an arena of so many cells. A call for few values does not pay for the larger one. Not shared with the merge in unions: one
+// function for both would take a closure, and would have to state each answer through what the closure ensures.
+fn conforms_within<const CELLS: usize>(table: &[u8], sheet: &[u8], values: &[u8]) -> bool
+    requires { Readable table.now ×
+        (1 + cells_at_most (identifier_count table.now) (length values.now) ≤ CELLS) × (CELLS < 4294967296) }
     ensures { result ≡ conforming table.now sheet.now values.now }
 {
-    let mut s = [0u64; 8193];
+    let mut s = [0u64; CELLS];
     conforms_in(table, sheet, values, &mut s)
 }
 
@@ -143,19 +120,20 @@ fn conforms_readable(table: &[u8], sheet: &[u8], values: &[u8]) -> bool
     requires { Readable table.now }
     ensures { result ≡ conforming table.now sheet.now values.now }
 {
-    if buffer::cells_at_most(table::identifiers(table), values.len()) < 512 {
-        return conforms_small(table, sheet, values);
+    if buffer::cells_at_most(table::identifiers(table), values.len()) < SMALL {
+        conforms_within::<SMALL>(table, sheet, values)
+    } else {
+        conforms_within::<LARGE>(table, sheet, values)
     }
-    conforms_large(table, sheet, values)
 }
 
 // Whether the values buffer gives each free identifier of the table a value of the type in its row of the sheet.
+// No struct of the buffers: the parameters of a public function stay, and the inner ones pass its arguments on.
 pub fn conforms(table: &[u8], sheet: &[u8], values: &[u8]) -> bool
     ensures { result ≡ conforming table.now sheet.now values.now }
 {
-    let reading = reading::read(table);
-    match reading {
-        Reading::Refused(_) => false,
-        Reading::Passed => conforms_readable(table, sheet, values),
+    match reading::read(table) {
+        Ok(()) => conforms_readable(table, sheet, values),
+        Err(_) => false,
     }
 }

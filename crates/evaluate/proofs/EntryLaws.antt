@@ -8,7 +8,7 @@ use native.Mathlib.Omega.{arith}
 use native.Mathlib.Decide.{ℕ_discrete}
 use lib.ListN.{length, get_or, set as set_at, length-set}
 use lib.Seq.{get_or-set_same, get_or-set_other}
-use Rattle.rules.specs.Cells.{no_value, values_in}
+use Rattle.rules.specs.Cells.{no_value, values_in, values_from}
 use Rattle.rules.specs.Ends.{done, refused}
 use Rattle.rules.specs.Tables.{Table, table_of, last_node, node_count, identifier_count, kind_at}
 use Rattle.rules.specs.Kinds.{predicate}
@@ -22,13 +22,10 @@ use Rattle.laws.proofs.ReadingLaws.{reading_right}
 use Rattle.laws.proofs.FormedLaws.{values_in_good}
 use Rattle.laws.proofs.Soundness.{evaluation_run}
 use Rattle.reading.specs.Answers.{height_of, root_height, reading_height}
-use Rattle.reading.specs.declared.Height.{Height}
-use Rattle.reading.specs.declared.Height.TheVariants.{Refused as Unmeasured}
+use Rattle.std.specs.Prelude.{Result, Err}
 use Rattle.reading.proofs.Promise.{unmeasured_refused}
 use Rattle.reading.specs.declared.Refusal.{Refusal}
-use Rattle.buffer.specs.declared.Loaded.{Loaded}
-use Rattle.buffer.specs.declared.Loaded.TheVariants.{Refused as Lacking}
-use Rattle.buffer.specs.Loaded.{Bound, Loads, LoadReady}
+use Rattle.buffer.specs.Loaded.{Bound, LoadReady}
 use Rattle.arena.specs.Code.{Same}
 use Rattle.buffer.specs.Buffer.{cells_at_most}
 use Rattle.constants.specs.Built.{Builds}
@@ -76,12 +73,10 @@ refusal_reported : {x : Run Bool} {k p : ℕ} {r : Evaluation} → Unvisited x k
 refusal_reported e d = record { ending = d.ending ∙ sym e.end; spent = d.spent ∙ sym e.steps }
 
 -- 14 refuses.
-pub lacking_reported : (bs buffer s env : List ℕ) (top : ℕ) (a : Loaded) → Loads (table_of bs).sizes (table_of bs).binds buffer s env top a →
-    (budget : ℕ) {x : ℕ} {r : Evaluation} → Readable bs → a ≡ Lacking x → RefusedAt 14 x 0 r → Reported (evaluation bs buffer budget) r
+pub lacking_reported : (bs buffer : List ℕ) (budget : ℕ) {x : ℕ} {r : Evaluation} → Readable bs →
+    values_from (table_of bs).sizes (table_of bs).binds 0 buffer ≡ refused 14 x → RefusedAt 14 x 0 r → Reported (evaluation bs buffer budget) r
 unfolding values_in
-lacking_reported bs buffer s env top a h budget {x} q e d =
-    let l : values_in (table_of bs) buffer ≡ refused 14 x = subst (λ (z : Loaded). Loads (table_of bs).sizes (table_of bs).binds buffer s env top z) e h in
-    refusal_reported (unloaded_ends bs buffer budget 14 x (table_of bs) ((reading_right bs).1 q) l) d
+lacking_reported bs buffer budget {x} q e d = refusal_reported (unloaded_ends bs buffer budget 14 x (table_of bs) ((reading_right bs).1 q) e) d
 
 -- Marks: entries that bind the same values, functions alone marked.
 pub rebinds_start : {bs s env : List ℕ} {top : ℕ} → RootReady bs env s top → Rebinds bs s env env
@@ -254,7 +249,7 @@ pub has_room : {bs values : List ℕ} {need cells : ℕ} → Measured bs values 
 has_room h l = record { readable = h.needs.readable; enough = omega (arith, h.needs.enough); room = λ b. omega (arith, h.needs.room b) }
 
 -- 1 to 9 refuse.
-pub unread_reported : (bs buffer : List ℕ) (budget : ℕ) (a : Height) {f : Refusal} {r : Evaluation} → height_of a ≡ reading_height bs → a ≡ Unmeasured f →
+pub unread_reported : (bs buffer : List ℕ) (budget : ℕ) (a : Result ℕ Refusal) {f : Refusal} {r : Evaluation} → height_of a ≡ reading_height bs → a ≡ Err f →
     RefusedAt f.number f.place 0 r → Reported (evaluation bs buffer budget) r
 unread_reported bs buffer budget a {f} h e d =
     refusal_reported (unread_ends bs buffer budget f.number f.place (unmeasured_refused bs (sym (ap height_of e) ∙ h))) d

@@ -12,8 +12,7 @@ ghost use Rattle.evaluate.specs.Arenas.{ArenaReady, RoomFor, RootReady, RootRepo
 
 mod arenas;
 
-use buffer::Loaded;
-use reading::{Height, Refusal};
+use reading::Refusal;
 use reports::{Ending, Evaluation, Truth};
 
 // An evaluation, and whether the values have the types that a sheet gives to the identifiers.
@@ -21,6 +20,15 @@ use reports::{Ending, Evaluation, Truth};
 pub struct GuardedRun {
     pub evaluation: Evaluation,
     pub conforms: bool,
+}
+
+// What an evaluation is made of: a table, the values of its identifiers, the sheet that these are tested against, and the budget.
+#[derive(Clone, Copy)]
+pub struct Inputs<'a> {
+    pub table: &'a [u8],
+    pub values: &'a [u8],
+    pub sheet: &'a [u8],
+    pub budget: u32,
 }
 
 // 14 at an identifier.
@@ -61,37 +69,10 @@ fn mark(table: &[u8], s: &[u64], env: &mut [u32; 32])
     ensures { Rebinds table.now s.now env.old env.new }
 {
     let count = table::identifiers(table);
-    let mut x: usize = 0;
-    while x < count {
+    for x in 0..count {
         let at = env[x] % visits::FUNCTION;
         if operations::known_function(s, at as usize) {
             env[x] = visits::FUNCTION + at;
-        }
-        x += 1;
-    }
-}
-
-// Evaluates a readable table over the arena s, in which its constants stand first, and then the values of its identifiers; and tests these
-// against the sheet.
-fn evaluate_in(table: &[u8], values: &[u8], sheet: &[u8], budget: u32, s: &mut [u64]) -> GuardedRun
-    requires { ArenaReady table.now values.now s.old }
-    ensures { Judged table.now values.now sheet.now budget result }
-{
-    constants::put_constants(table, s);
-    let count = table::nodes(table);
-    let loaded = buffer::load(table, values, s, count);
-    let mut env = loaded.at;
-    let answer = loaded.answer;
-    match answer {
-        Loaded::Refused(x) => unloaded(x),
-        Loaded::All(top) => {
-            let conforms = conforms::loaded_conform(table, s, &env, sheet);
-            mark(table, s, &mut env);
-            let evaluation = evaluate_at(table, &env, s, top, budget);
-            GuardedRun {
-                evaluation,
-                conforms,
-            }
         }
     }
 }
@@ -112,20 +93,39 @@ fn room(table: &[u8], height: usize) -> usize
     0
 }
 
-// Evaluates a readable table, whose root has the height, over an arena of its size.
-pub fn evaluate_sized(
-    table: &[u8],
-    values: &[u8],
-    sheet: &[u8],
-    budget: u32,
-    height: usize,
-) -> GuardedRun
-    requires { Readable table.now × (height ≡ root_height (table_of table.now)) }
-    ensures { Judged table.now values.now sheet.now budget result }
-{
-    let held = buffer::cells_at_most(table::identifiers(table), values.len());
-    let need = 1 + table::nodes(table) + held + room(table, height);
-    arenas::smallest(table, values, sheet, budget, need)
+impl Inputs<'_> {
+    // Evaluates a readable table over the arena s, in which its constants stand first, and then the values of its identifiers; and tests these
+    // against the sheet.
+    fn evaluate_in(&self, s: &mut [u64]) -> GuardedRun
+        requires { ArenaReady self.now.table.now self.now.values.now s.old }
+        ensures { Judged self.now.table.now self.now.values.now self.now.sheet.now self.now.budget result }
+    {
+        constants::put_constants(self.table, s);
+        let count = table::nodes(self.table);
+        match buffer::load(self.table, self.values, s, count) {
+            Err(fault) => unloaded(fault.identifier),
+            Ok(loaded) => {
+                let mut env = loaded.at;
+                let conforms = conforms::loaded_conform(self.table, s, &env, self.sheet);
+                mark(self.table, s, &mut env);
+                let evaluation = evaluate_at(self.table, &env, s, loaded.end, self.budget);
+                GuardedRun {
+                    evaluation,
+                    conforms,
+                }
+            }
+        }
+    }
+
+    // Evaluates a readable table, whose root has the height, over an arena of its size.
+    pub fn evaluate_sized(&self, height: usize) -> GuardedRun
+        requires { Readable self.now.table.now × (height ≡ root_height (table_of self.now.table.now)) }
+        ensures { Judged self.now.table.now self.now.values.now self.now.sheet.now self.now.budget result }
+    {
+        let held = buffer::cells_at_most(table::identifiers(self.table), self.values.len());
+        let need = 1 + table::nodes(self.table) + held + room(self.table, height);
+        self.in_smallest_arena(need)
+    }
 }
 
 // Evaluate: refusals 1 to 9, then 14, and then the condition's end.
@@ -133,12 +133,17 @@ pub fn evaluate(table: &[u8], values: &[u8], budget: u32) -> Evaluation
     ensures { (ending_of result.ending ≡ (evaluation table.now values.now budget).end) ×
         (result.steps ≡ (evaluation table.now values.now budget).steps) }
 {
-    let height = reading::read_height(table);
-    match height {
-        Height::Refused(r) => reports::refused(r, 0),
-        Height::Root(h) => {
+    match reading::read_height(table) {
+        Err(refusal) => reports::refused(refusal, 0),
+        Ok(height) => {
             // No sheet: whether the values conform is not asked.
-            let run = evaluate_sized(table, values, &table[..0], budget, h);
+            let inputs = Inputs {
+                table,
+                values,
+                sheet: &[],
+                budget,
+            };
+            let run = inputs.evaluate_sized(height);
             run.evaluation
         }
     }

@@ -1,13 +1,23 @@
-// The evaluators: the value rules of document 01 at each node of a readable table, over an arena of cells.
+// The evaluators: the value rules of document 01 at each node of a readable table, over an arena of cells, by the codes of kinds (project rule).
+// Their parameters stay apart: each call changes three of the six, so a struct of all would be made anew for each; table and environment, which most
+// calls pass on, are two only, and the arena is written, so contracts speak of it before and after.
 #![tactic(auto)]
 
-ghost use Rattle.std.specs.Prelude.{◌<◌};
+ghost use Rattle.std.specs.Prelude.{◌<◌, ◌≡◌};
 ghost use Rattle.rules.specs.Kinds.{join, test, quant, one, two};
+ghost use Rattle.visits.specs.Answers.{numbered};
 ghost use Rattle.visits.specs.Nodes.{IsPred, IsExpr, NoNegation, quant_of};
 ghost use Rattle.visits.specs.Cycle.{NodeReady, Visited, Sort, EvaluatesP, EvaluatesE, EachReady, EvaluatesEach, EvaluatesChosen};
 
-use operations::{Outcome, Tested};
-use visits::{Formed, Held, Range};
+use operations::{Lack, Outcome};
+use visits::{Formed, Held};
+
+// What an operation answers, a refusal by its number: `visits::settle` takes any number.
+fn numbered(r: Result<Outcome, Lack>) -> Result<Outcome, usize>
+    ensures { result ≡ numbered r }
+{
+    r.map_err(usize::from)
+}
 
 // The condition at a node. The compiler inlines nothing into a function that calls itself: so this calls `eval_bare`, which calls it.
 #[cycle(evaluators)]
@@ -74,11 +84,8 @@ fn eval_join(
     let Held::Truth { yes: p, left: n } = first else {
         return first;
     };
-    if visits::decides(kind, p) {
-        return Held::Truth {
-            yes: kind != 1,
-            left: n,
-        };
+    if let Some(yes) = visits::decides(kind, p) {
+        return Held::Truth { yes, left: n };
     }
     let b = table::node_field(table, node, 1);
     let second = eval_pred(table, env, s, top, b, n);
@@ -125,8 +132,7 @@ fn eval_test(
     else {
         return visits::refusal_of(second);
     };
-    let tested = operations::test(s, kind, x, y);
-    let Tested::Truth(yes) = tested else {
+    let Some(yes) = operations::test(s, kind, x, y) else {
         return visits::refused(15, node, m);
     };
     Held::Truth { yes, left: m }
@@ -156,14 +162,13 @@ fn eval_quant(
     else {
         return visits::refusal_of(first);
     };
-    let range = visits::range_of(s, at);
-    let Range::Set(count) = range else {
+    let Some(count) = visits::range_of(s, at) else {
         return visits::refused(15, node, n);
     };
     each_member(table, env, s, next, kind == 10, node, at + 1, count, n)
 }
 
-// The body of a quantifier at each of `count` members from `from` on; the first that decides ends it.
+// The body of a quantifier at each of `count` members from `from` on, whose places follow from their lengths; the first that decides ends it.
 #[cycle(evaluators)]
 fn each_member(
     table: &[u8],
@@ -183,9 +188,8 @@ fn each_member(
     let body = table::node_field(table, node, 2);
     let mut inner = *env;
     let mut at = from;
-    let mut more = count;
     let mut n = left;
-    while more > 0 {
+    for _turn in 0..count {
         inner[x] = at as u32;
         let held = eval_pred(table, &inner, s, top, body, n);
         let Held::Truth { yes, left: m } = held else {
@@ -196,7 +200,6 @@ fn each_member(
         }
         n = m;
         at = arena::end_of(s, at);
-        more -= 1;
     }
     Held::Truth { yes: all, left: n }
 }
@@ -215,14 +218,13 @@ fn operand(
     requires { NodeReady table.now env.now s.old top node × IsExpr table.now node }
     ensures { EvaluatesE table.now env.now s.old top node left s.new result }
 {
-    let at = visits::leaf_place(table, env, node);
-    if at == 0 || left == 0 {
-        return eval_expr(table, env, s, top, node, left);
-    }
-    Formed::Value {
-        at,
-        end: top,
-        left: left - 1,
+    match visits::leaf_place(table, env, node) {
+        Some(at) if left > 0 => Formed::Value {
+            at,
+            end: top,
+            left: left - 1,
+        },
+        _ => eval_expr(table, env, s, top, node, left),
     }
 }
 
@@ -260,10 +262,9 @@ fn eval_value(
         return visits::stopped(19, node, left);
     }
     let kind = table::node_kind(table, node);
-    let p = visits::standing_two(table, env, kind, node, left);
-    if p.first > 0 {
+    if let Some(p) = visits::standing_two(table, env, kind, node, left) {
         let r = operations::light(s, kind, p.first, p.second, p.known);
-        return visits::settle(s, r, top, top, top, node, left - 3);
+        return visits::settle(s, numbered(r), top, top, top, node, left - 3);
     }
     match kind {
         25 => eval_bool(table, env, s, top, node, left),
@@ -332,7 +333,7 @@ fn eval_one(
         return first;
     };
     let r = operations::one(s, kind, at, next);
-    visits::settle(s, r, next, next, top, node, n)
+    visits::settle(s, numbered(r), next, next, top, node, n)
 }
 
 // 28 to 32, 37 and 39 to 41
@@ -370,7 +371,7 @@ fn eval_two(
         return second;
     };
     let r = operations::two(s, kind, x, y, next);
-    visits::settle(s, r, mid, next, top, node, m)
+    visits::settle(s, numbered(r), mid, next, top, node, m)
 }
 
 // 34
@@ -396,8 +397,7 @@ fn eval_select(
     else {
         return first;
     };
-    let range = visits::range_of(s, at);
-    let Range::Set(count) = range else {
+    let Some(count) = visits::range_of(s, at) else {
         return visits::stopped(15, node, n);
     };
     let chosen = each_chosen(table, env, s, next, node, at + 1, count, n);
@@ -409,7 +409,7 @@ fn eval_select(
     else {
         return chosen;
     };
-    visits::settle(s, Outcome::Built(end), next, next, top, node, m)
+    visits::settle(s, Ok(Outcome::Built(end)), next, next, top, node, m)
 }
 
 // The members, of `count` from `from` on, at which the body holds, as a set built at top.
@@ -431,11 +431,10 @@ fn each_chosen(
     let body = table::node_field(table, node, 2);
     let mut inner = *env;
     let mut at = from;
-    let mut more = count;
     let mut n = left;
     let mut to = top + 1;
     let mut chosen: u64 = 0;
-    while more > 0 {
+    for _turn in 0..count {
         inner[x] = at as u32;
         let held = eval_pred(table, &inner, s, to, body, n);
         let Held::Truth { yes, left: m } = held else {
@@ -443,10 +442,9 @@ fn each_chosen(
         };
         n = m;
         let end = arena::end_of(s, at);
-        to = visits::choose(s, at, end, yes, to);
+        to = arena::copy_if(s, at, end, yes, to);
         chosen += yes as u64;
         at = end;
-        more -= 1;
     }
     s[top] = arena::SET + chosen;
     Formed::Value {

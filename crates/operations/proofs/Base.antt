@@ -5,6 +5,7 @@ pub use mathlib.Core.List.{List, [], ◌∷◌}
 pub use mathlib.Core.Logic.{◌≢◌, ◌⊎◌, inl, inr}
 pub use mathlib.Core.Path.{◌∙◌, ◌≡◌, ap, refl, subst, sym}
 pub use native.Mathlib.Omega.{arith}
+pub use Rattle.std.specs.Prelude.{None, Option, Some}
 pub use native.Mathlib.Decide.{dec_lt}
 pub use borrow.Author.Tests.{eq-eqb, le-leb, leb-true, lt-leb, ne_eqb, not-false, not-true}
 pub use borrow.Author.Rules.{rules}

@@ -1,8 +1,9 @@
 -- The operations of two operands. For operands that pass the operation's test it is enough to look at sets, at a set of pairs or at numbers; the
 -- answer then tells what the node gives by what has been made, by where the image stands, or by a cell.
 use Rattle.operations.proofs.Base.{ℕ, zero, suc, ◌+◌, ◌-◌, ◌%◌, ◌≤◌, ◌<◌, Bool, true, false, cond, not, List, [], ◌∷◌, ◌≢◌, ◌⊎◌, inl, inr, ◌≡◌, refl, sym, ap, ◌∙◌, subst, arith, le-leb, lt-leb, not-true, not-false, ltb, ltb→lt, nltb→le, ℤ, pos, negsuc, sub_ℕ, ◌+ℤ◌, ◌-ℤ◌, length, get_or}
+use Rattle.std.specs.Prelude.{Option, Some, None}
 use lib.Signed.{mag}
-use Rattle.operations.proofs.Terms.{whole, Value, set, Values, int, weight, Pattern, t̂, û, P̂, ◌×̂◌, numᵖ, two_rule, Two, pairing, union, inter, diff, product, apply, plus, minus, interval, two, Given, gives, lacks, two_value, cell_size, excess, code, CellsFit, SomeSet, SomeValue, Same, SomeRelation, Applies, ImageAt, FitTwo, Outcome, Within, Cell, Lacks, Sizes, GoodAt, weighed, two_given, ended, Gives, Operands, TwoReady, TwoDone, TwoOf, MergeDone, sum_kind, Shifted, NumberDone}
+use Rattle.operations.proofs.Terms.{whole, Value, set, Values, int, weight, Pattern, t̂, û, P̂, ◌×̂◌, numᵖ, two_rule, Two, pairing, union, inter, diff, product, apply, plus, minus, interval, two, Given, gives, lacks, two_value, cell_size, excess, code, CellsFit, SomeSet, SomeValue, Same, SomeRelation, Applies, ImageAt, FitTwo, NodeAnswer, Within, Cell, Ok, Err, Unlike, NoValue, Wide, Sizes, GoodAt, weighed, two_given, ended, Gives, Operands, TwoReady, TwoDone, TwoOf, MergeDone, sum_kind, Shifted, NumberDone}
 use Rattle.arena.proofs.Standing.{same_refl}
 use Rattle.merging.specs.Walks.{Merges}
 use Rattle.merging.specs.declared.Pass.{Pass}
@@ -39,11 +40,11 @@ module _ {s : List ℕ} {a b top : ℕ} (p : TwoReady s a b top) where
 
 -- The answer for operands that do not fit, and for those that do.
 module _ (j : Two) {s : List ℕ} {a b top : ℕ} {r : Bool} (f : FitTwo (two_rule j).takes s a b r) where
-  pub two_unlike : not r ≡ true → TwoDone j s a b top s (Lacks 15)
+  pub two_unlike : not r ≡ true → TwoDone j s a b top s (Err Unlike)
   unfolding two_given
   two_unlike e = record { frame = same_refl top s; answer = λ gs mid v w small l h k. rw (two_fits small h k (two_rule j).takes f ∙ not-true r e) }
 
-  module _ (e : not r ≡ false) {s' : List ℕ} {o : Outcome} where
+  module _ (e : not r ≡ false) {s' : List ℕ} {o : NodeAnswer} where
     two_told : Same top s s' →
         ((gs : List ℕ) (mid : ℕ) (v w : Value) → Sizes gs → mid ≤ top → GoodAt gs s mid a v → GoodAt gs s top b w →
         Gives s' mid top (weighed (two_value j v w)) o) → TwoDone j s a b top s' o
@@ -53,7 +54,7 @@ module _ (j : Two) {s : List ℕ} {a b top : ℕ} {r : Bool} (f : FitTwo (two_ru
       answer = λ gs mid v w small l h k. rw (two_fits small h k (two_rule j).takes f ∙ not-false r e) (m gs mid v w small l h k);
     }
 
-    two_made : (end : ℕ) → Operands s a b top →
+    two_made : (end : Option ℕ) → Operands s a b top →
         ((gs : List ℕ) (v w : Value) → Sizes gs → GoodAt gs s top a v → GoodAt gs s top b w → Makes top s s' end (two_value j v w)) →
         o ≡ ended end → TwoDone j s a b top s' o
     two_made end p m z =
@@ -61,7 +62,7 @@ module _ (j : Two) {s : List ℕ} {a b top : ℕ} {r : Bool} (f : FitTwo (two_ru
         (makes_frame top s s' end (two_value j p.first p.second) (m p.sizes p.first p.second p.small p.left p.right))
         (λ gs mid v w small l h k. makes_gives top s s' end mid (two_value j v w) (m gs v w small (good_above small h top l) k) z)
 
-module _ {s s' : List ℕ} {a b top end : ℕ} {o : Outcome} (p : Operands s a b top) where
+module _ {s s' : List ℕ} {a b top : ℕ} {end : Option ℕ} {o : NodeAnswer} (p : Operands s a b top) where
   pub pair_done : PutsPair s a b top s' end → o ≡ ended end → TwoDone pairing s a b top s' o
   unfolding two_value
   pair_done m z = two_made pairing two_any refl end p (λ gs v w small h k. m v w (good_value small h) (good_value small k)) z
@@ -73,46 +74,46 @@ module _ {s s' : List ℕ} {a b top end : ℕ} {o : Outcome} (p : Operands s a b
       two_made product f e end p (λ gs v w small h k. two_sets small h k (λ x y. Makes top s s' end (two_value product x y)) û f e m) z
 
 -- A merge, whose count of comparisons is not asked for.
-pub merge_done : {s s' : List ℕ} {a b top : ℕ} {o : Outcome} {l c r t : Bool} {q : Pass} → Operands s a b top → FitTwo (P̂ t̂ ∷ P̂ t̂ ∷ []) s a b t →
+pub merge_done : {s s' : List ℕ} {a b top : ℕ} {o : NodeAnswer} {l c r t : Bool} {q : Pass} → Operands s a b top → FitTwo (P̂ t̂ ∷ P̂ t̂ ∷ []) s a b t →
     not t ≡ false → Merges l c r s a b top s' q → o ≡ ended q.end → MergeDone l c r s a b top s' o
 merge_done {s} {s'} {a} {b} {top} {t = t} {q = q} p f e m z j i =
     two_made j (subst (λ (ps : List Pattern). FitTwo ps s a b t) (sym i.takes) f) e q.end p
     (λ gs v w small h k. two_sets small h k (λ x y. Makes top s s' q.end (two_value j x y)) t̂ f e
     (λ vs ws x y. subst (λ (g : Given). Makes top s s' q.end g) (sym (i.merges vs ws x.fine y.fine)) (m vs ws x y).made)) z
 
-pub merge_unlike : {s : List ℕ} {a b top : ℕ} {l c r t : Bool} → FitTwo (P̂ t̂ ∷ P̂ t̂ ∷ []) s a b t → not t ≡ true → MergeDone l c r s a b top s (Lacks 15)
+pub merge_unlike : {s : List ℕ} {a b top : ℕ} {l c r t : Bool} → FitTwo (P̂ t̂ ∷ P̂ t̂ ∷ []) s a b t → not t ≡ true → MergeDone l c r s a b top s (Err Unlike)
 merge_unlike {s} {a} {b = b} {t = t} f e j i = two_unlike j (subst (λ (ps : List Pattern). FitTwo ps s a b t) (sym i.takes) f) e
 
 -- Application: the second part within the function, or none.
-image_none : (s : List ℕ) (a mid top : ℕ) (vs : Values) (r : ℕ) (g : Given) → ImageAt s a vs r g → r ≡ 0 → Gives s mid top (weighed g) (Lacks 16)
-image_none s a mid top vs r (lacks k) h z = ap lacks h.0
-image_none s a mid top vs r (gives u) h z = absurd (omega (arith, h.positive))
+image_none : (s : List ℕ) (a mid top : ℕ) (vs : Values) (g : Given) → ImageAt s a vs None g → Gives s mid top (weighed g) (Err NoValue)
+image_none s a mid top vs (lacks k) h = ap lacks h
+image_none s a mid top vs (gives u) h = absurd h
 
-image_some : (s : List ℕ) (a mid top : ℕ) (vs : Values) (r : ℕ) (g : Given) → ImageAt s a vs r g → r ≢ 0 → a + weight (set vs) ≤ mid →
-    Gives s mid top (weighed g) (Within r)
-image_some s a mid top vs r (lacks k) h n l = absurd (n h.1)
-image_some s a mid top vs r (gives u) h n l = record {
+image_some : (s : List ℕ) (a mid top : ℕ) (vs : Values) (r : ℕ) (g : Given) → ImageAt s a vs (Some r) g → a + weight (set vs) ≤ mid →
+    Gives s mid top (weighed g) (Ok (Within r))
+image_some s a mid top vs r (lacks k) h l = absurd h
+image_some s a mid top vs r (gives u) h l = record {
   value = u;
   is = rw (le-leb (weight u) 256 h.value.light);
   stands = h.value.stands;
   below = omega (arith, h.value.below);
 }
 
-module _ {s : List ℕ} {a b top : ℕ} {r : Bool} (f : FitTwo (P̂ (t̂ ×̂ û) ∷ t̂ ∷ []) s a b r) (e : not r ≡ false) (at : ℕ) (image : Applies s a b at) where
-  applied_told : (o : Outcome) →
+module _ {s : List ℕ} {a b top : ℕ} {r : Bool} (f : FitTwo (P̂ (t̂ ×̂ û) ∷ t̂ ∷ []) s a b r) (e : not r ≡ false) where
+  applied_told : (at : Option ℕ) → Applies s a b at → (o : NodeAnswer) →
       ((mid : ℕ) (vs : Values) (g : Given) → ImageAt s a vs at g → a + weight (set vs) ≤ mid → Gives s mid top (weighed g) o) → TwoDone apply s a b top s o
   unfolding two_value
-  applied_told o m =
+  applied_told at image o m =
       two_told apply f e (same_refl top s)
       (λ gs mid v w small _ h k. two_function small (good_whole small h) k
       (λ x y. a + weight x ≤ mid → Gives s mid top (weighed (two_value apply x y)) o) f e
       (λ vs i q l. m mid vs (two_value apply (set vs) w) (image vs w i (good_value small (good_whole small k)) q) l) h.below)
 
-  pub apply_none : at ≡ 0 → TwoDone apply s a b top s (Lacks 16)
-  apply_none z = applied_told (Lacks 16) (λ mid vs g h l. image_none s a mid top vs at g h z)
+  pub apply_none : Applies s a b None → TwoDone apply s a b top s (Err NoValue)
+  apply_none image = applied_told None image (Err NoValue) (λ mid vs g h l. image_none s a mid top vs g h)
 
-  pub apply_some : at ≢ 0 → TwoDone apply s a b top s (Within at)
-  apply_some n = applied_told (Within at) (λ mid vs g h l. image_some s a mid top vs at g h n l)
+  pub apply_some : (at : ℕ) → Applies s a b (Some at) → TwoDone apply s a b top s (Ok (Within at))
+  apply_some at image = applied_told (Some at) image (Ok (Within at)) (λ mid vs g h l. image_some s a mid top vs at g h l)
 
 -- Integers with their range checked.
 module _ (x : ℕ) where
@@ -122,7 +123,7 @@ module _ (x : ℕ) where
   far (negsuc n) h (inl l) = omega arith
   far (negsuc n) h (inr l) = omega arith
 
-  pub number_far : (x < 2147483648) ⊎ (4294967295 < x - 2147483648) → NumberDone x (Lacks 17)
+  pub number_far : (x < 2147483648) ⊎ (4294967295 < x - 2147483648) → NumberDone x (Err Wide)
   number_far l s mid top i h = rw (lt-leb (mag i) 2147483647 (far i h l))
 
   module _ (low : 2147483648 ≤ x) (high : x - 2147483648 ≤ 4294967295) where
@@ -131,7 +132,7 @@ module _ (x : ℕ) where
     near (pos n) h = (omega arith, omega arith)
     near (negsuc n) h = (omega arith, omega arith)
 
-    pub number_near : NumberDone x (Cell (4294967296 + (x - 2147483648)))
+    pub number_near : NumberDone x (Ok (Cell (4294967296 + (x - 2147483648))))
     unfolding code
     number_near s mid top i h = record {
       value = int i;
@@ -165,13 +166,13 @@ module _ {x y : ℕ} where
   shifted_difference (negsuc a) (negsuc b) h k p q = shifted_sub (suc b) (suc a) (x + 4294967296 - y) (omega (arith, h.1, k.1))
 
 pub sum_unlike : (less : Bool) {s : List ℕ} {a b top : ℕ} {r : Bool} → FitTwo (numᵖ whole ∷ numᵖ whole ∷ []) s a b r → not r ≡ true →
-    TwoDone (sum_kind less) s a b top s (Lacks 15)
+    TwoDone (sum_kind less) s a b top s (Err Unlike)
 sum_unlike true f e = two_unlike (minus whole) f e
 sum_unlike false f e = two_unlike (plus whole) f e
 
 -- Two numbers as operands, by the payloads of their cells.
 module _ {s : List ℕ} {a b top : ℕ} {r : Bool} (f : FitTwo (numᵖ whole ∷ numᵖ whole ∷ []) s a b r) (e : not r ≡ false)
-    {x y : ℕ} (ex : x ≡ get_or s a 0 % cell_size) (ey : y ≡ get_or s b 0 % cell_size) {o : Outcome} where
+    {x y : ℕ} (ex : x ≡ get_or s a 0 % cell_size) (ey : y ≡ get_or s b 0 % cell_size) {o : NodeAnswer} where
   pub plus_done : NumberDone (x + y) o → TwoDone (plus whole) s a b top s o
   unfolding two_value
   plus_done m =
@@ -186,7 +187,7 @@ module _ {s : List ℕ} {a b top : ℕ} {r : Bool} (f : FitTwo (numᵖ whole ∷
       (λ gs mid v w small _ h k. two_numbers small h k (λ v w. Gives s mid top (weighed (two_value (minus whole) v w)) o) f e
       (λ i j c d. m s mid top (i -ℤ j) (shifted_difference i j c.fits d.fits (number_low ex c) (number_low ey d))))
 
-  pub interval_done : {s' : List ℕ} {end : ℕ} → Operands s a b top → Intervals s x y top s' end → o ≡ ended end → TwoDone interval s a b top s' o
+  pub interval_done : {s' : List ℕ} {end : Option ℕ} → Operands s a b top → Intervals s x y top s' end → o ≡ ended end → TwoDone interval s a b top s' o
   unfolding two_value
   interval_done {s'} {end} p m z =
       two_made interval f e end p
@@ -194,7 +195,7 @@ module _ {s : List ℕ} {a b top : ℕ} {r : Bool} (f : FitTwo (numᵖ whole ∷
       (λ i j c d. m i j c.fits d.fits (number_low ex c) (number_low ey d))) z
 
 -- By kind codes: the code is i's, or that of none but the last.
-module _ {k : ℕ} {s : List ℕ} {a b top : ℕ} {s' : List ℕ} {o : Outcome} where
+module _ {k : ℕ} {s : List ℕ} {a b top : ℕ} {s' : List ℕ} {o : NodeAnswer} where
   pub two_of : (i : Two) → k ≡ code_of (two i) → TwoDone i s a b top s' o → TwoOf k s a b top s' o
   two_of i e d j f = subst (λ (h : Two). TwoDone h s a b top s' o) (cc (same_kind k (two i) (two j) e f)) d
 

@@ -15,9 +15,9 @@ pub use Rattle.arena.specs.Code.{AllPairs, CellsFit, FineSet, Made, Rises, Same,
 pub use Rattle.functions.specs.Pairs.{Applies, ImageAt, KnownFunction, new_firsts}
 pub use Rattle.fitting.specs.Tests.{Both, FitOne, FitTwo}
 pub use Rattle.operations.specs.Good.{FunctionSeen, GoodAt, NewFirsts, Sizes, SomeGood}
-unfoldable pub use Rattle.operations.specs.Outcomes.{ended, one_given, tested, two_given}
-pub use Rattle.operations.specs.Outcomes.{BuiltAt, GivenCell, Gives, LeafDone, LeafFits, LeafReady, NumberCell, NumbersTold, OneDone, OneOf, OneReady, Operands, TestDone, TestOf, TwoDone, TwoOf, TwoReady, weighed}
+unfoldable pub use Rattle.operations.specs.Outcomes.{one_given, tested, two_given}
+pub use Rattle.operations.specs.Outcomes.{NodeAnswer, BuiltAt, GivenCell, Gives, LeafDone, LeafFits, LeafReady, NumberCell, NumbersTold, OneDone, OneOf, OneReady, Operands, TestDone, TestOf, TwoDone, TwoOf, TwoReady, ended, weighed}
 pub use Rattle.operations.specs.Parts.{MergeDone, NumberDone, Shifted, side_kind, sum_kind}
-pub use Rattle.operations.specs.declared.Outcome.{Outcome}
-pub use Rattle.operations.specs.declared.Outcome.TheVariants.{Cell, Lacks, Within}
-pub use Rattle.operations.specs.declared.Tested.TheVariants.{Truth, Unlike}
+pub use Rattle.operations.specs.declared.Outcome.TheVariants.{Built, Cell, Within}
+pub use Rattle.operations.specs.declared.Lack.TheVariants.{Unlike, NoValue, Wide}
+pub use Rattle.std.specs.Prelude.{Some, None, Ok, Err}

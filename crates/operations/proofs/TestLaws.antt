@@ -2,27 +2,27 @@
 -- cells.
 use Rattle.operations.proofs.Base.{ℕ, ◌+◌, ◌≤◌, Bool, true, false, not, ◌≢◌, List, [], ◌∷◌, ◌≡◌, refl, sym, ap, ◌∙◌, subst, arith, le-leb, lt-leb, not-true, not-false, T, leb, leb→le, le→leb, eqb, eqb→eq, eqb_refl, ℤ, pos, negsuc, length, get_or, bool_eq}
 use lib.Signed.{le_z}
-use Rattle.operations.proofs.Terms.{whole, Value, int, payload, same, Test, equal, member, subset, at_most, test, t̂, P̂, numᵖ, test_rule, fits, holds, excess, code, SomeSet, SomeValue, SameAt, FitTwo, Sizes, GoodAt, Truth, Unlike, Operands, tested, TestDone, NumberCell, NumbersTold, TestOf}
+use Rattle.operations.proofs.Terms.{whole, Value, int, payload, same, Test, equal, member, subset, at_most, test, t̂, P̂, numᵖ, test_rule, fits, holds, excess, code, SomeSet, SomeValue, SameAt, FitTwo, Sizes, GoodAt, Some, None, Operands, tested, TestDone, NumberCell, NumbersTold, TestOf}
 use Rattle.laws.proofs.OrderLaws.{same_eq, same_refl}
 use Rattle.arena.proofs.CodeLaws.{all_agree}
 use Rattle.sets.specs.Fronts.{Contains, Includes}
-use Rattle.operations.specs.declared.Tested.{Tested}
+use Rattle.std.specs.Prelude.{Option}
 use Rattle.operations.proofs.GoodLaws.{good_fits, good_value, good_whole}
 use Rattle.operations.proofs.OutcomeLaws.{test_unfit, test_fit}
 use Rattle.operations.proofs.FitLaws.{two_fits, two_sets, two_member, two_numbers}
 use Rattle.laws.proofs.KindLaws.{code_of, code_of_law, same_kind}
 
 module _ (j : Test) {s : List ℕ} {a b : ℕ} {r : Bool} (f : FitTwo (test_rule j).takes s a b r) where
-  pub test_unlike : not r ≡ true → TestDone j s a b Unlike
+  pub test_unlike : not r ≡ true → TestDone j s a b None
   test_unlike e gs mid top v w small h k = sym (test_unfit j v w (two_fits small h k _ f ∙ not-true r e))
 
   test_told : (t : Bool) → not r ≡ false →
-      ((gs : List ℕ) (mid top : ℕ) (v w : Value) → Sizes gs → GoodAt gs s mid a v → GoodAt gs s top b w → t ≡ holds j v w) → TestDone j s a b (Truth t)
-  test_told t e g gs mid top v w small h k = ap Truth (g gs mid top v w small h k) ∙ sym (test_fit j v w (two_fits small h k _ f ∙ not-false r e))
+      ((gs : List ℕ) (mid top : ℕ) (v w : Value) → Sizes gs → GoodAt gs s mid a v → GoodAt gs s top b w → t ≡ holds j v w) → TestDone j s a b (Some t)
+  test_told t e g gs mid top v w small h k = ap Some (g gs mid top v w small h k) ∙ sym (test_fit j v w (two_fits small h k _ f ∙ not-false r e))
 
 module _ {s : List ℕ} {a b : ℕ} {r : Bool} where
   -- 6
-  pub equal_told : (q : Bool) → FitTwo (t̂ ∷ t̂ ∷ []) s a b r → not r ≡ false → SameAt s a b q → TestDone equal s a b (Truth q)
+  pub equal_told : (q : Bool) → FitTwo (t̂ ∷ t̂ ∷ []) s a b r → not r ≡ false → SameAt s a b q → TestDone equal s a b (Some q)
   unfolding holds
   equal_told q f e c =
       test_told equal f q e (λ gs mid top v w small h k. c v w h.stands k.stands (good_fits small v h.good) (good_fits small w k.good))
@@ -35,7 +35,7 @@ module _ {s : List ℕ} {a b : ℕ} {r : Bool} where
       two_member p.small p.left (good_whole p.small p.right) (λ _ _. SomeSet s (length s) b) f e (λ ws j. (ws, j)),
     )
 
-    pub member_told : (q : Bool) → Contains s a b q → TestDone member s a b (Truth q)
+    pub member_told : (q : Bool) → Contains s a b q → TestDone member s a b (Some q)
     unfolding holds
     member_told q c =
         test_told member f q e
@@ -49,7 +49,7 @@ module _ {s : List ℕ} {a b : ℕ} {r : Bool} where
         two_sets p.small (good_whole p.small p.left) (good_whole p.small p.right)
         (λ _ _. SomeSet s (length s) a × SomeSet s (length s) b) t̂ f e (λ vs ws i j. ((vs, i), (ws, j)))
 
-    pub subset_told : (q : Bool) → Includes s a b q → TestDone subset s a b (Truth q)
+    pub subset_told : (q : Bool) → Includes s a b q → TestDone subset s a b (Some q)
     unfolding holds
     subset_told q c =
         test_told subset f q e
@@ -85,16 +85,16 @@ cells_same m n x y c d = bool_eq (eqb x y) (same (int m) (int n)) told back
 
 -- The tests of two numbers, by the code.
 module _ {k x y : ℕ} where
-  pub numbers_equal : k ≡ 6 → NumbersTold k x y (Truth (eqb x y))
+  pub numbers_equal : k ≡ 6 → NumbersTold k x y (Some (eqb x y))
   unfolding tested fits holds
-  numbers_equal e j f m n c d = let i : equal ≡ j = cc (same_kind k (test equal) (test j) e f) in rw (← i) (ap Truth (cells_same m n x y c d))
+  numbers_equal e j f m n c d = let i : equal ≡ j = cc (same_kind k (test equal) (test j) e f) in rw (← i) (ap Some (cells_same m n x y c d))
 
-  pub numbers_at_most : k ≡ 9 → NumbersTold k x y (Truth (leb x y))
+  pub numbers_at_most : k ≡ 9 → NumbersTold k x y (Some (leb x y))
   unfolding tested fits holds
   numbers_at_most e j f m n c d =
-      let i : at_most whole ≡ j = cc (same_kind k (test (at_most whole)) (test j) e f) in rw (← i) (ap Truth (cells_order m n x y c d))
+      let i : at_most whole ≡ j = cc (same_kind k (test (at_most whole)) (test j) e f) in rw (← i) (ap Some (cells_order m n x y c d))
 
-  pub numbers_unlike : k ≢ 6 → k ≢ 9 → NumbersTold k x y Unlike
+  pub numbers_unlike : k ≢ 6 → k ≢ 9 → NumbersTold k x y None
   unfolding tested fits
   numbers_unlike n6 n9 equal f m n c d = absurd (n6 (code_of_law k (test equal) f))
   numbers_unlike n6 n9 member f m n c d = refl
@@ -102,7 +102,7 @@ module _ {k x y : ℕ} where
   numbers_unlike n6 n9 (at_most whole) f m n c d = absurd (n9 (code_of_law k (test (at_most whole)) f))
 
 -- By kind codes: two numbers, or the code is i's, or that of none but the last, which takes numbers only.
-module _ {s : List ℕ} {a b : ℕ} {o : Tested} where
+module _ {s : List ℕ} {a b : ℕ} {o : Option Bool} where
   pub test_numbers : (k : ℕ) {r : Bool} → FitTwo (numᵖ whole ∷ numᵖ whole ∷ []) s a b r → not r ≡ false → NumbersTold k (get_or s a 0) (get_or s b 0) o →
       TestOf k s a b o
   test_numbers k f e m j q gs mid top v w small h l = two_numbers small h l (λ x y. o ≡ tested j x y) f e (m j q)

@@ -1,5 +1,5 @@
 -- What a node gives for its operands' values, and what the operations answer for it.
-use Rattle.std.specs.Prelude.{ℕ, ◌+◌, ◌≤◌, ◌<◌, cond, List, [], ◌∷◌, ◌≢◌, ◌≡◌, leb, eqb, ℤ, length, get_or}
+use Rattle.std.specs.Prelude.{ℕ, ◌+◌, ◌≤◌, ◌<◌, cond, List, [], ◌∷◌, Option, Some, None, Result, Ok, Err, Bool, ◌≢◌, ◌≡◌, leb, ℤ, length, get_or}
 use Rattle.std.proofs.Math.Option.{some}
 use Rattle.rules.specs.Values.{Value, int, weight}
 use Rattle.rules.specs.Kinds.{Test, One, Two, test, leaf, one, two, kind_of}
@@ -12,9 +12,20 @@ use Rattle.rules.specs.Operations.{Env, holds, leaf_value, one_value, two_value}
 use Rattle.arena.specs.Code.{cell_size, excess, code, ValueAt, Same, CellsFit}
 use Rattle.operations.specs.Good.{Sizes, GoodAt}
 use Rattle.operations.specs.declared.Outcome.{Outcome}
-use Rattle.operations.specs.declared.Outcome.TheVariants.{Built, Within, Cell, Lacks}
-use Rattle.operations.specs.declared.Tested.{Tested}
-use Rattle.operations.specs.declared.Tested.TheVariants.{Truth, Unlike}
+use Rattle.operations.specs.declared.Outcome.TheVariants.{Built, Within, Cell}
+use Rattle.operations.specs.declared.Lack.{Lack}
+use Rattle.operations.specs.declared.Lack.TheVariants.{Unlike, NoValue, Wide, Heavy}
+
+-- What an operation answers.
+abbrev pub NodeAnswer : Type 0
+NodeAnswer = Result Outcome Lack
+
+-- The number of a refusal.
+abbrev pub lack_number : Lack → ℕ
+lack_number Unlike = 15
+lack_number NoValue = 16
+lack_number Wide = 17
+lack_number Heavy = 18
 
 -- 18: what is given weighs at most 256.
 abbrev pub weighed : Given → Given
@@ -33,13 +44,15 @@ unfoldable pub two_given : Two → Value → Value → Given
 unfolding fits two_value
 two_given j v w = fitted (two_rule j).takes (v ∷ w ∷ []) (two_value j v w)
 
-unfoldable pub tested : Test → Value → Value → Tested
+-- The truth of a test, or none (15).
+unfoldable pub tested : Test → Value → Value → Option Bool
 unfolding fits holds
-tested j v w = cond (fits (test_rule j).takes (v ∷ w ∷ [])) (Truth (holds j v w)) Unlike
+tested j v w = cond (fits (test_rule j).takes (v ∷ w ∷ [])) (Some (holds j v w)) None
 
--- The answer of a function that builds and answers where the value ends, or 0 where it would weigh over 256.
-unfoldable pub ended : ℕ → Outcome
-ended end = cond (eqb end 0) (Lacks 18) (Built end)
+-- The answer of a function that builds and answers where the value ends, or None where it would weigh over 256.
+abbrev pub ended : Option ℕ → NodeAnswer
+ended (Some end) = Ok (Built end)
+ended None = Err Heavy
 
 -- A value that is given has been built at `top` and ends at `end`.
 pub record BuiltAt (s : List ℕ) (top : ℕ) (g : Given) (end : ℕ) : Type 0 where
@@ -62,12 +75,12 @@ pub record GivenCell (g : Given) (x : ℕ) : Type 0 where
   pub is : g ≡ gives value
   pub cell : code value ≡ x ∷ []
 
--- The answer tells what is given: built at `top`, or a part of the first operand, which ends by `mid`, or its only cell, or the number of a refusal.
-abbrev pub Gives : List ℕ → ℕ → ℕ → Given → Outcome → Type 0
-Gives s mid top g (Built end) = BuiltAt s top g end
-Gives s mid top g (Within at) = WithinAt s mid g at
-Gives s mid top g (Cell x) = GivenCell g x
-Gives s mid top g (Lacks k) = g ≡ lacks k
+-- The answer tells what is given: built at `top`, or a part of the first operand, which ends by `mid`, or its only cell, or why there is none.
+abbrev pub Gives : List ℕ → ℕ → ℕ → Given → NodeAnswer → Type 0
+Gives s mid top g (Ok (Built end)) = BuiltAt s top g end
+Gives s mid top g (Ok (Within at)) = WithinAt s mid g at
+Gives s mid top g (Ok (Cell x)) = GivenCell g x
+Gives s mid top g (Err lack) = g ≡ lacks (lack_number lack)
 
 -- A good operand stands at a, below `top`, where there is room to build.
 pub record OneReady (s : List ℕ) (a top : ℕ) : Type 0 where
@@ -96,18 +109,18 @@ pub record TwoReady (s : List ℕ) (a b top : ℕ) : Type 0 where
   pub room : top + 514 ≤ length s
 
 -- What an operation of one operand answers; below `top` nothing is changed.
-pub record OneDone (j : One) (s : List ℕ) (a top : ℕ) (s' : List ℕ) (r : Outcome) : Type 0 where
+pub record OneDone (j : One) (s : List ℕ) (a top : ℕ) (s' : List ℕ) (r : NodeAnswer) : Type 0 where
   pub frame : Same top s s'
   pub answer : (gs : List ℕ) (v : Value) → Sizes gs → GoodAt gs s top a v → Gives s' top top (one_given j v) r
 
 -- And of two, the first of which ends by any `mid`.
-pub record TwoDone (j : Two) (s : List ℕ) (a b top : ℕ) (s' : List ℕ) (r : Outcome) : Type 0 where
+pub record TwoDone (j : Two) (s : List ℕ) (a b top : ℕ) (s' : List ℕ) (r : NodeAnswer) : Type 0 where
   pub frame : Same top s s'
   pub answer : (gs : List ℕ) (mid : ℕ) (v w : Value) → Sizes gs → mid ≤ top → GoodAt gs s mid a v → GoodAt gs s top b w →
       Gives s' mid top (two_given j v w) r
 
 -- What a test answers.
-abbrev pub TestDone : Test → List ℕ → ℕ → ℕ → Tested → Type 0
+abbrev pub TestDone : Test → List ℕ → ℕ → ℕ → Option Bool → Type 0
 TestDone j s a b r = (gs : List ℕ) (mid top : ℕ) (v w : Value) → Sizes gs → GoodAt gs s mid a v → GoodAt gs s top b w → r ≡ tested j v w
 
 -- x is the cell of the number m.
@@ -116,15 +129,15 @@ pub record NumberCell (m : ℤ) (x : ℕ) : Type 0 where
   pub is : x ≡ cell_size + excess m
 
 -- What a test of two numbers answers, by their cells.
-abbrev pub NumbersTold : ℕ → ℕ → ℕ → Tested → Type 0
+abbrev pub NumbersTold : ℕ → ℕ → ℕ → Option Bool → Type 0
 NumbersTold k x y r =
     (j : Test) → kind_of k ≡ some (test j) → (m n : ℤ) → NumberCell m x → NumberCell n y → r ≡ tested j (int m) (int n)
 
 -- The same by kind codes.
-abbrev pub OneOf : ℕ → List ℕ → ℕ → ℕ → List ℕ → Outcome → Type 0
+abbrev pub OneOf : ℕ → List ℕ → ℕ → ℕ → List ℕ → NodeAnswer → Type 0
 OneOf k s a top s' r = (j : One) → kind_of k ≡ some (one j) → OneDone j s a top s' r
 
-abbrev pub TwoOf : ℕ → List ℕ → ℕ → ℕ → ℕ → List ℕ → Outcome → Type 0
+abbrev pub TwoOf : ℕ → List ℕ → ℕ → ℕ → ℕ → List ℕ → NodeAnswer → Type 0
 TwoOf k s a b top s' r = (j : Two) → kind_of k ≡ some (two j) → TwoDone j s a b top s' r
 
 -- Application, sum and difference build nothing.
@@ -133,10 +146,10 @@ pub record IsLight (k : ℕ) : Type 0 where
   pub high : k ≤ 40
   pub other : k ≢ 38
 
-abbrev pub LightOf : ℕ → List ℕ → ℕ → ℕ → Outcome → Type 0
+abbrev pub LightOf : ℕ → List ℕ → ℕ → ℕ → NodeAnswer → Type 0
 LightOf k s a b r = (top : ℕ) → TwoOf k s a b top s r
 
-abbrev pub TestOf : ℕ → List ℕ → ℕ → ℕ → Tested → Type 0
+abbrev pub TestOf : ℕ → List ℕ → ℕ → ℕ → Option Bool → Type 0
 TestOf k s a b r = (j : Test) → kind_of k ≡ some (test j) → TestDone j s a b r
 
 -- A leaf that is built, a given set a with its size or BOOL, may be. The constants of one cell are never built, nor is an identifier's value.

@@ -8,8 +8,7 @@ use Rattle.rules.specs.Runs.{gives}
 use Rattle.rules.specs.Operations.{set_of, ranged, two_value}
 use Rattle.arena.specs.Code.{FineSet}
 use Rattle.rules.specs.Merges.{merged}
-use Rattle.operations.specs.declared.Outcome.{Outcome}
-use Rattle.operations.specs.Outcomes.{weighed, Gives, TwoDone}
+use Rattle.operations.specs.Outcomes.{NodeAnswer, weighed, Gives, TwoDone}
 
 -- The range, or the domain.
 abbrev pub side_kind : Bool → One
@@ -25,7 +24,7 @@ pub record IsMerge (j : Two) (left both right : Bool) : Type 0 where
   pub merges : (vs ws : Values) → FineSet vs → FineSet ws → two_value j (set vs) (set ws) ≡ gives (set_of (merged left both right (members vs) (members ws)))
 
 -- Union, intersection and difference are such.
-abbrev pub MergeDone : Bool → Bool → Bool → List ℕ → ℕ → ℕ → ℕ → List ℕ → Outcome → Type 0
+abbrev pub MergeDone : Bool → Bool → Bool → List ℕ → ℕ → ℕ → ℕ → List ℕ → NodeAnswer → Type 0
 MergeDone left both right s a b top s' r = (j : Two) → IsMerge j left both right → TwoDone j s a b top s' r
 
 -- x is i + 2^32.
@@ -34,5 +33,5 @@ Shifted (pos n) x = x ≡ 4294967296 + n
 Shifted (negsuc n) x = x + suc n ≡ 4294967296
 
 -- The integer that x stands for is given, where it has 32 bits (17).
-abbrev pub NumberDone : ℕ → Outcome → Type 0
+abbrev pub NumberDone : ℕ → NodeAnswer → Type 0
 NumberDone x r = (s : List ℕ) (mid top : ℕ) (i : ℤ) → Shifted i x → Gives s mid top (weighed (ranged whole i)) r

@@ -1,8 +1,9 @@
-// What each kind gives for its operands' values, by kind codes: refusals 15 to 18, and values built in the arena.
+// What each kind gives for its operands' values, by the codes of kinds (project rule): refusals 15 to 18, and values built in the arena. The arena
+// and the operands' places stay apart: half of the operations write it, so a struct of them would be made anew for each call.
 #![tactic(auto)]
 
 ghost use Rattle.std.specs.Prelude.{◌≡◌, true};
-ghost use Rattle.operations.specs.Outcomes.{ended, OneReady, OneOf, SomeOperands, TwoReady, TwoOf, IsLight, LightOf, TestOf, LeafReady, LeafDone};
+ghost use Rattle.operations.specs.Outcomes.{ended, lack_number, OneReady, OneOf, SomeOperands, TwoReady, TwoOf, IsLight, LightOf, TestOf, LeafReady, LeafDone};
 ghost use Rattle.operations.specs.Good.{SomeGood, FunctionSeen};
 ghost use Rattle.functions.specs.Pairs.{KnownFunction};
 
@@ -11,34 +12,41 @@ mod single;
 mod tests;
 
 // A value built at the arena's top, with where it ends; or one within the first operand, with where it stands; or the only
-// cell of one that the caller writes; or the number of a refusal.
-#[derive(Drop)]
+// cell of one that the caller writes.
+#[derive(Clone, Copy, Debug, PartialEq, Eq)]
 pub enum Outcome {
     Built(usize),
     Within(usize),
     Cell(u64),
-    Lacks(usize),
 }
 
-// The truth of a test, or that its operands are not alike (15).
-#[derive(Drop)]
-pub enum Tested {
-    Truth(bool),
-    Unlike,
+// Why operands give no value, by the refusal's number: they do not have the kind's types; there is no least member, or no image; the
+// integer does not have 32 bits; the value weighs over 256.
+#[derive(Clone, Copy, Debug, PartialEq, Eq)]
+pub enum Lack {
+    Unlike = 15,
+    NoValue = 16,
+    Wide = 17,
+    Heavy = 18,
 }
 
-// What has been built up to `end`; 0 where it would weigh over 256 (18).
-fn built(end: usize) -> Outcome
+impl From<Lack> for usize {
+    ghost from_gives = { λ lack n. n ≡ lack_number lack };
+
+    fn from(lack: Lack) -> usize {
+        lack as usize
+    }
+}
+
+// What has been built up to `end`, if it does not weigh too much.
+fn built(end: Option<usize>) -> Result<Outcome, Lack>
     ensures { result ≡ ended end }
 {
-    if end == 0 {
-        return Outcome::Lacks(18);
-    }
-    Outcome::Built(end)
+    end.map(|end| Outcome::Built(end)).ok_or(Lack::Heavy)
 }
 
 // Kinds 27, 33, 35, 36, 38 and 43: one operand, at a.
-pub fn one(s: &mut [u64], kind: usize, a: usize, top: usize) -> Outcome
+pub fn one(s: &mut [u64], kind: usize, a: usize, top: usize) -> Result<Outcome, Lack>
     requires { OneReady s.old a top }
     ensures { OneOf kind s.old a top s.new result }
 {
@@ -68,17 +76,11 @@ pub fn leaf(s: &mut [u64], kind: usize, a: u64, size: u64, top: usize) -> usize
 pub fn is_light(kind: usize) -> bool
     ensures { result ≡ true → IsLight kind }
 {
-    if kind == 38 {
-        return false;
-    }
-    if kind < 37 {
-        return false;
-    }
-    kind <= 40
+    matches!(kind, 37 | 39 | 40)
 }
 
 // These kinds, for the operands at a and b. That the first one is a function may be known.
-pub fn light(s: &[u64], kind: usize, a: usize, b: usize, known: bool) -> Outcome
+pub fn light(s: &[u64], kind: usize, a: usize, b: usize, known: bool) -> Result<Outcome, Lack>
     requires { SomeOperands s.now a b × KnownFunction s.now a known × IsLight kind }
     ensures { LightOf kind s.now a b result }
 {
@@ -94,32 +96,27 @@ pub fn known_function(s: &[u64], a: usize) -> bool
     requires { SomeGood s.now a }
     ensures { FunctionSeen s.now a result }
 {
-    if !fitting::is_relation(s, a) {
-        return false;
-    }
-    functions::flat_mapping(s, a)
+    fitting::is_relation(s, a) && functions::flat_mapping(s, a)
 }
 
 // Kinds 28 to 32, 37 and 39 to 41: two operands, at a and b.
-pub fn two(s: &mut [u64], kind: usize, a: usize, b: usize, top: usize) -> Outcome
+pub fn two(s: &mut [u64], kind: usize, a: usize, b: usize, top: usize) -> Result<Outcome, Lack>
     requires { TwoReady s.old a b top }
     ensures { TwoOf kind s.old a b top s.new result }
 {
     match kind {
         28 => built(products::pair(s, a, b, top)),
-        29 => double::merge(s, a, b, top, true, true, true),
-        30 => double::merge(s, a, b, top, false, true, false),
-        31 => double::merge(s, a, b, top, true, false, false),
+        29 => double::merge(s, a, b, top, sets::UNION),
+        30 => double::merge(s, a, b, top, sets::INTERSECTION),
+        31 => double::merge(s, a, b, top, sets::DIFFERENCE),
         32 => double::product(s, a, b, top),
-        37 => double::apply(s, a, b, false),
-        39 => double::sum(s, a, b, false),
-        40 => double::sum(s, a, b, true),
+        37 | 39 | 40 => light(s, kind, a, b, false),
         _ => double::interval(s, a, b, top),
     }
 }
 
-// What a test of kind 6 to 9 answers for good operands, at a and b.
-pub fn test(s: &[u64], kind: usize, a: usize, b: usize) -> Tested
+// What a test of kind 6 to 9 answers for good operands, at a and b; none if they are not alike (15).
+pub fn test(s: &[u64], kind: usize, a: usize, b: usize) -> Option<bool>
     requires { SomeOperands s.now a b }
     ensures { TestOf kind s.now a b result }
 {
@@ -132,6 +129,6 @@ pub fn test(s: &[u64], kind: usize, a: usize, b: usize) -> Tested
         7 => tests::member(s, a, b),
         8 => tests::subset(s, a, b),
         // 9 takes numbers only.
-        _ => Tested::Unlike,
+        _ => None,
     }
 }

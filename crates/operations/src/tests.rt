@@ -2,49 +2,49 @@
 ghost use Rattle.rules.specs.Kinds.{equal, member, subset};
 ghost use Rattle.operations.specs.Outcomes.{SomeOperands, TestDone, NumbersTold};
 
-use super::Tested;
-
 // 6: the operands are the same.
-pub fn equal(s: &[u64], a: usize, b: usize) -> Tested
+pub fn equal(s: &[u64], a: usize, b: usize) -> Option<bool>
     requires { SomeOperands s.now a b }
     ensures { TestDone equal s.now a b result }
 {
     if !fitting::alike(s, a, b) {
-        return Tested::Unlike;
+        return None;
     }
     let end = sets::value_end(s, a);
-    Tested::Truth(arena::same(s, a, end, b))
+    Some(arena::same(s, a, end, b))
 }
 
+// 7 and 8 ask different tests of types and of members: one function would take both as closures, which is no plainer.
+
 // 7: the first is a member of the second.
-pub fn member(s: &[u64], a: usize, b: usize) -> Tested
+pub fn member(s: &[u64], a: usize, b: usize) -> Option<bool>
     requires { SomeOperands s.now a b }
     ensures { TestDone member s.now a b result }
 {
     if !fitting::belongs(s, a, b) {
-        return Tested::Unlike;
+        return None;
     }
-    Tested::Truth(sets::contains(s, a, b))
+    Some(sets::contains(s, a, b))
 }
 
 // 8: the members of the first are members of the second.
-pub fn subset(s: &[u64], a: usize, b: usize) -> Tested
+pub fn subset(s: &[u64], a: usize, b: usize) -> Option<bool>
     requires { SomeOperands s.now a b }
     ensures { TestDone subset s.now a b result }
 {
     if !fitting::alike_sets(s, a, b) {
-        return Tested::Unlike;
+        return None;
     }
-    Tested::Truth(sets::included(s, a, b))
+    Some(sets::included(s, a, b))
 }
 
 // 6 and 9 on the cells of two numbers, which stand in the numbers' order. No other test takes numbers.
-pub fn numbers(kind: usize, x: u64, y: u64) -> Tested
+pub fn numbers(kind: usize, x: u64, y: u64) -> Option<bool>
     ensures { NumbersTold kind x y result }
 {
     match kind {
-        6 => Tested::Truth(x == y),
-        9 => Tested::Truth(x <= y),
-        _ => Tested::Unlike,
+        6 => Some(x == y),
+        9 => Some(x <= y),
+        _ => None,
     }
 }

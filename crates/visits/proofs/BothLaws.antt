@@ -1,8 +1,7 @@
 -- The two operands of a node, one after the other: their answers joined, for tests and for operations of two; and the tests.
 use Rattle.visits.proofs.Terms.{cond, demand, ℕ, ◌+◌, ◌-◌, ◌*◌, ◌≤◌, ◌<◌, Bool, true, false, List, [], ◌∷◌, ◌≡◌, refl, sym, ◌∙◌, subst, arith}
 use Rattle.visits.proofs.Terms.{Value, expression, test, fits, table_of, End, done, refused, Run, M, return, ◌>>=◌, ◌>>◌, fitting, holdsᵖ, Same, same_trans, SomeOperands, Refusal, Formed, Placed, Stopped, Truth, Refused, EndsWith, PlacedAs, condition_cells, NodeReady, Visited, Sort, Asks, value_at, EvaluatesP, EvaluatesE, field_a, field_b, IsExpr, Held, RefusalOf, Test, holds, TestOf, tested, test_rule, height, good_above}
-use Rattle.operations.specs.declared.Tested.{Tested}
-use Rattle.operations.specs.declared.Tested.TheVariants.{Truth as Tells, Unlike}
+use Rattle.std.specs.Prelude.{Option, Some, None}
 use Rattle.visits.proofs.RunLaws.{then_done, then_refused, returns}
 use Rattle.visits.proofs.NodeLaws.{Child, TwoFields, ready_child, child_asks, good_frame, sizes_small, formed_as, some_asks, asks_on}
 use Rattle.visits.proofs.NodeLaws.{held_as, refusal_is, visited_operands, visits, after, value_in, formed_below, predᵍ, held_by}
@@ -101,16 +100,16 @@ operands_ready {bs} {n = n} {left = left} {next = next} x h =
     (next, record { sizes = _; small = small; first = _; second = _; left = good_above small (h.first i).place next h.order; right = (h.second i).place })
 
 -- The end that the test's answer tells: the truth, or 15.
-abbrev told_end : ℕ → Tested → End Bool
-told_end n (Tells y) = done y
-told_end n Unlike = refused 15 n
+abbrev told_end : ℕ → Option Bool → End Bool
+told_end n (Some y) = done y
+told_end n None = refused 15 n
 
 tested_ends : {budget left : ℕ} (n : ℕ) (j : Test) (v w : Value) (s : ℕ) → s + left ≡ budget →
     EndsWith ((fitting n (test_rule j) (v ∷ w ∷ []) >> return (holds j v w)) s) (told_end n (tested j v w)) budget left
 unfolding tested
 tested_ends {budget} {left} n j v w s c =
     elim (fits (test_rule j).takes (v ∷ w ∷ [])) as (λ b.
-    EndsWith ((demand b 15 n >> return (holds j v w)) s) (told_end n (cond b (Tells (holds j v w)) Unlike)) budget left)
+    EndsWith ((demand b 15 n >> return (holds j v w)) s) (told_end n (cond b (Some (holds j v w)) None)) budget left)
     [ true ↦ returns (holds j v w) c | false ↦ record { end = refl; steps = c } ]
 
 -- 6 to 9
@@ -131,9 +130,9 @@ module _ {bs env s : List ℕ} {top k n left : ℕ} (p : Visited bs env s top k 
   test_stops q e h = held_as refl (refusal_is q e) (held_by x (test j) p.1.1 h.frame (λ i. visits x i _ (h.answer (after x i) _)))
 
   module _ {s' : List ℕ} {at mid other next l : ℕ} (h : EvaluatesBoth bs env s top n (left - 1) s' at mid other next l)
-      {o : Tested} (op : TestOf k s' at other o) where
+      {o : Option Bool} (op : TestOf k s' at other o) where
     -- The node's end, by what the test tells of the operands' values.
-    told : {z : Tested} → o ≡ z → (i : Asks bs env s top n left) →
+    told : {z : Option Bool} → o ≡ z → (i : Asks bs env s top n left) →
         EndsWith (holdsᵖ i.budget (table_of bs).sizes (predᵍ bs n (test j) i.depth) i.values i.steps) (told_end n z) i.budget l
     unfolding holdsᵖ
     told q i =
@@ -143,8 +142,8 @@ module _ {bs env s : List ℕ} {top k n left : ℕ} (p : Visited bs env s top k 
         visits x i _ (then_done _ v.ends (then_done _ w.ends
         (rw (sym r ∙ q) at (tested_ends n j v.value w.value _ w.ends.steps))))
 
-    pub test_unlike : o ≡ Unlike → EvaluatesP bs env s top n left s' (Refused (record { number = 15; place = n }) l)
+    pub test_unlike : o ≡ None → EvaluatesP bs env s top n left s' (Refused (record { number = 15; place = n }) l)
     test_unlike q = held_by x (test j) p.1.1 h.frame (told q)
 
-    pub test_truth : {y : Bool} → o ≡ Tells y → EvaluatesP bs env s top n left s' (Truth y l)
+    pub test_truth : {y : Bool} → o ≡ Some y → EvaluatesP bs env s top n left s' (Truth y l)
     test_truth q = held_by x (test j) p.1.1 h.frame (told q)

@@ -1,7 +1,8 @@
 -- The members that a comprehension chooses: its run member by member, and the set that is built of them.
 use Rattle.visits.proofs.Terms.{ℕ, ◌+◌, ◌-◌, ◌*◌, ◌≤◌, ◌<◌, Bool, true, false, cond, List, [], ◌∷◌, ◌≡◌, refl, sym, ap, ◌∙◌, subst, arith, length, set_at, length-set, bool_byte, ◌++◌, append_assoc, append-nil, values, weights, select, ValuesAt}
-use Rattle.visits.proofs.Terms.{Value, Values, members, count, weight, done, refused, M, code, codes, Stands, Same, EndsAt, length_code, length_codes, stands_frame, same_refl, same_trans, copied_stands, Refusal, Held, Truth, Refused, Formed, StopOf, Placed, EndsWith, SelectedAs, field_a, field_c, IsPred, ChooseReady, Chooses, NodeReady, AsksEach, body_of, EachReady, EvaluatesChosen, get_or-set_other, stands_append, count_weights}
+use Rattle.visits.proofs.Terms.{Value, Values, members, count, weight, done, refused, M, code, codes, Stands, Same, EndsAt, length_code, length_codes, stands_frame, same_refl, same_trans, copied_stands, Refusal, Held, Truth, Refused, Formed, StopOf, Placed, EndsWith, SelectedAs, field_a, field_c, IsPred, CopyIfReady, CopiedIf, NodeReady, AsksEach, body_of, EachReady, EvaluatesP, EvaluatesChosen, get_or-set_other, stands_append, count_weights}
 use Rattle.arena.proofs.FrontLaws.{single, codes_append, count_append, weights_append}
+use Rattle.arena.proofs.MadeLaws.{made_ends}
 use Rattle.products.proofs.GrowLaws.{made_set}
 use Rattle.visits.proofs.RunLaws.{then_done, then_refused, returns}
 use Rattle.visits.proofs.NodeLaws.{stop_is}
@@ -31,7 +32,7 @@ pub record Selecting (g : Value → M Bool) (whole : List Value) (budget steps :
   pub stops : {k p l : ℕ} → EndsWith (select g (members rest) now) (refused k p) budget l → EndsWith (select g whole steps) (refused k p) budget l
 
 -- What is chosen of a member stands behind what has been chosen.
-chosen_stands : (s : List ℕ) (at end : ℕ) (b : Bool) (to : ℕ) (s' : List ℕ) (r : ℕ) (v : Value) → Chooses s at end b to s' r →
+chosen_stands : (s : List ℕ) (at end : ℕ) (b : Bool) (to : ℕ) (s' : List ℕ) (r : ℕ) (v : Value) → CopiedIf s at end b to s' r →
     Stands s at (code v) → end ≡ at + weight v → to + weight v ≤ length s →
     ValuesAt s' to (values (picked b v)) × (r ≡ to + weights (values (picked b v)))
 unfolding code
@@ -49,7 +50,7 @@ module _ {g : Value → M Bool} {whole : List Value} {budget steps : ℕ} {s : L
     (h : Selecting g whole budget steps s top rest now to chosen) where
   -- After a turn: the arena is s₁ behind the body, and s₂ with the member added if it is chosen.
   selecting_turn : {gs : List ℕ} {at more : ℕ} (u : First gs s top at more rest) (s₁ : List ℕ) (end : ℕ) (b : Bool) {l : ℕ} (s₂ : List ℕ) (r : ℕ) →
-      top + 256 ≤ length s → Same to s s₁ → end ≡ at + weight u.value → EndsWith (g u.value now) (done b) budget l → Chooses s₁ at end b to s₂ r →
+      top + 256 ≤ length s → Same to s s₁ → end ≡ at + weight u.value → EndsWith (g u.value now) (done b) budget l → CopiedIf s₁ at end b to s₂ r →
       Selecting g whole budget steps s₂ top u.rest (g u.value now).steps r (chosen + bool_byte b)
   unfolding select
   selecting_turn {gs} {at} u s₁ end b s₂ r room same e run c =
@@ -83,8 +84,8 @@ module _ {g : Value → M Bool} {whole : List Value} {budget steps : ℕ} {s : L
       let made = made_set s top s to chosen (values h.taken)
       (record { frame = same_refl (top + 1) s; stands = h.stands; ends = omega (arith, h.ends, length_codes (values h.taken)) })
       h.counted room (omega (arith, h.light)) in
-      let l = made.light (omega (arith, h.light)) in
-      record { chosen = h.taken; ends = rw (append-nil h.taken) at (h.goes {ws = []} {l = n} (rw z (returns [] counts))); stands = l.1; ending = l.0 }
+      let l = made_ends made in
+      record { chosen = h.taken; ends = rw (append-nil h.taken) at (h.goes {ws = []} {l = n} (rw z (returns [] counts))); stands = l.2; ending = l.1 }
 
 -- The same answer under equal names.
 pub chosen_as : {bs env s : List ℕ} {top n from count left : ℕ} {s' : List ℕ} {r r' : Formed} → r ≡ r' →
@@ -98,9 +99,9 @@ pub record Choosing (bs env s₀ : List ℕ) (top n from count left x : ℕ) (s 
       Selecting (body_of k) (members k.range) k.asks.budget k.asks.steps s top (loop.rest k) (loop.now k) to chosen
 
 module _ {bs env s₀ : List ℕ} {top n from count left : ℕ} (pre : EachReady bs env s₀ top n from count 256) where
-  pub choosing_start : (x : ℕ) → Choosing bs env s₀ top n from count left x s₀ env from count left (top + 1) 0
+  pub choosing_start : {more : ℕ} (x : ℕ) → more ≡ count → Choosing bs env s₀ top n from count left x s₀ env from more left (top + 1) 0
   unfolding code
-  choosing_start x = record {
+  choosing_start x z = rw z (record {
     loop = loop_start x pre;
     on = λ k. record {
       taken = [];
@@ -111,7 +112,7 @@ module _ {bs env s₀ : List ℕ} {top n from count left : ℕ} (pre : EachReady
       goes = λ e. e;
       stops = λ e. e;
     };
-  }
+  })
 
   module _ {x : ℕ} {s inner : List ℕ} {at more m to chosen : ℕ} (h : Choosing bs env s₀ top n from count left x s inner at more m to chosen) where
     -- Where what has been chosen ends, and how many members it has.
@@ -143,7 +144,11 @@ module _ {bs env s₀ : List ℕ} {top n from count left : ℕ} (pre : EachReady
     choosing_asks some name body e =
         body_asks pre h.loop some choosing_low name body e (λ _. omega (arith, pre.space (omega arith), choosing_near.1, h.loop.frame.kept))
 
--- It has run.
+    -- It has run.
+    pub chose : {c : ℕ} {s₁ : List ℕ} {r : Held} → 0 < more → x ≡ field_a bs n → c ≡ field_c bs n → EvaluatesP bs (set_at inner x at) s to c m s₁ r →
+        Ran h.loop 256 to c s₁ r
+    chose some name body told = record { ready = pre; some = some; low = choosing_low; name = name; body = body; told = told }
+
 module _ {bs env s₀ : List ℕ} {top n from count left x : ℕ} {s inner : List ℕ} {at more m to chosen c : ℕ} {s₁ : List ℕ} {r : Held}
     (h : Choosing bs env s₀ top n from count left x s inner at more m to chosen) (u : Ran h.loop 256 to c s₁ r) where
   -- The body is refused.
@@ -157,7 +162,7 @@ module _ {bs env s₀ : List ℕ} {top n from count left x : ℕ} {s inner : Lis
 
   -- It is true or false, and the member ends at `end`.
   module _ {end : ℕ} (ends : EndsAt s₁ at end) where
-    pub choosing_choose : ChooseReady s₁ at end to
+    pub choosing_choose : CopyIfReady s₁ at end to
     choosing_choose =
         let k = some_asked left u.ready in
         let v = ran_at u k in
@@ -165,15 +170,15 @@ module _ {bs env s₀ : List ℕ} {top n from count left x : ℕ} {s inner : Lis
         let o = h.on k in
         record {
           forward = omega arith;
-          behind = omega (arith, v.here.below, u.low);
+          inside = omega (arith, v.here.below, u.low, u.ready.space (omega arith), h.loop.frame.kept, u.told.frame.kept, o.ends, o.light);
           room = omega (arith, u.ready.space (omega arith), h.loop.frame.kept, u.told.frame.kept, o.ends, o.light, ap weights v.is);
         }
 
-    pub choosing_next : {yes : Bool} {l : ℕ} {s₂ : List ℕ} {q : ℕ} → r ≡ Truth yes l → Chooses s₁ at end yes to s₂ q →
-        Choosing bs env s₀ top n from count left x s₂ (set_at inner x at) end (more - 1) l q (chosen + bool_byte yes)
-    choosing_next {yes} {l} {s₂} {q} is f = record {
+    pub choosing_next : {yes : Bool} {l : ℕ} {s₂ : List ℕ} {q fewer : ℕ} → fewer ≡ more - 1 → r ≡ Truth yes l → CopiedIf s₁ at end yes to s₂ q →
+        Choosing bs env s₀ top n from count left x s₂ (set_at inner x at) end fewer l q (chosen + bool_byte yes)
+    choosing_next {yes} {l} {s₂} {q} less is f = rw less (record {
       loop = loop_next u ends yes is f.frame;
       on = λ k.
           selecting_turn (h.on k) (ran_at u k) s₁ end yes s₂ q (omega (arith, u.ready.space (omega arith), h.loop.frame.kept)) u.told.frame
           (member_ends u ends k) (body_ends u (Truth yes l) is k) f;
-    }
+    })

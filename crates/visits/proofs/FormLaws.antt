@@ -1,6 +1,7 @@
 -- What the evaluators of expressions with operands give, kinds 25, 27 to 41 and 43: the operands' answers, and with them the node's.
+use Rattle.arena.proofs.MadeLaws.{made_ends}
 use Rattle.visits.proofs.Terms.{ℕ, ◌+◌, ◌-◌, ◌*◌, ◌≤◌, ◌<◌, Bool, true, false, List, [], ◌∷◌, ◌≡◌, refl, arith, bool_byte}
-use Rattle.visits.proofs.Terms.{weight, bool_of, one, two, comprehension, predicate, expression, table_of, gives, valueᵉ, code, same_trans, SomeOperands, Outcome, kind_of_law, Builds, Refusal, Truth, Refused, Formed, Placed, Stopped, Set, Unlike, PlacedAs, field_a, field_b, RangeAt, Visited, Sort, Asks, EvaluatesP, EvaluatesE, EachReady, EvaluatesChosen, truth_value, One, set_of, one_value, two_value, one_given, two_given, OneReady, OneOf, TwoReady, TwoOf, LightOf, KnownFunction, FunctionLeaf, one_rule, two_rule, PutsCell, IsLight, Built, function_known, StandingTwo}
+use Rattle.visits.proofs.Terms.{weight, bool_of, one, two, comprehension, predicate, expression, table_of, gives, valueᵉ, code, same_trans, SomeOperands, NodeAnswer, kind_of_law, Builds, Refusal, Truth, Refused, Formed, Placed, Stopped, Some, None, PlacedAs, field_a, field_b, RangeAt, Visited, Sort, Asks, EvaluatesP, EvaluatesE, EachReady, EvaluatesChosen, truth_value, One, set_of, one_value, two_value, one_given, two_given, OneReady, OneOf, TwoReady, TwoOf, LightOf, KnownFunction, FunctionLeaf, one_rule, two_rule, PutsCell, IsLight, Built, Ok, function_known, StandingTwo}
 use Rattle.visits.specs.declared.Places.{Places}
 use Rattle.visits.proofs.RunLaws.{then_done, then_refused, light_form, fitted_ends}
 use Rattle.visits.proofs.NodeLaws.{Child, TwoFields, ready_first, sizes_small, visited_builds, operation_room, visited_child, visited_operands}
@@ -42,7 +43,7 @@ module _ {bs env s : List ℕ} {top k n m left : ℕ} (p : Visited bs env s top 
           room = operation_room x (one j) p.1.1 next refl refl h.frame (omega (arith, one_child.lower, one_child.tall, h.bounds));
         }
 
-    pub one_operated : {s₂ : List ℕ} {o : Outcome} → OneOf k s₁ at next s₂ o → Operated bs env s top k n left (one j) s₂ o next next l
+    pub one_operated : {s₂ : List ℕ} {o : NodeAnswer} → OneOf k s₁ at next s₂ o → Operated bs env s top k n left (one j) s₂ o next next l
     unfolding valueᵉ one_given
     one_operated {s₂} op = record {
       visited = x;
@@ -77,7 +78,7 @@ module _ {bs env s : List ℕ} {top k n left : ℕ} (p : Visited bs env s top k 
   unfolding valueᵉ
   two_fails q h = rw q (stopped_by p.0 (two p.1.0) p.1.1 h.frame (λ i. visits p.0 i _ (h.answer (after p.0 i) _)))
 
-  pub two_operated : {s₁ : List ℕ} {at mid other next l : ℕ} {s₂ : List ℕ} {o : Outcome} → EvaluatesBoth bs env s top n (left - 1) s₁ at mid other next l →
+  pub two_operated : {s₁ : List ℕ} {at mid other next l : ℕ} {s₂ : List ℕ} {o : NodeAnswer} → EvaluatesBoth bs env s top n (left - 1) s₁ at mid other next l →
       TwoOf k s₁ at other next s₂ o → Operated bs env s top k n left (two p.1.0) s₂ o mid next l
   unfolding valueᵉ two_given
   two_operated {s₁} {mid = mid} {next = next} {s₂ = s₂} h op =
@@ -125,7 +126,7 @@ module _ {bs env s : List ℕ} {top k n left : ℕ} (x : Visited bs env s top k 
   pub light_asks : SomeOperands s r.first r.second × KnownFunction s r.first r.known × IsLight k
   light_asks = (operands_ready x.ready both, λ e. known_first (z.known e) refl, z.light)
 
-  pub light_operated : {o : Outcome} → LightOf k s r.first r.second o → Operated bs env s top k n left (two at_two.1.0) s o top top (left - 3)
+  pub light_operated : {o : NodeAnswer} → LightOf k s r.first r.second o → Operated bs env s top k n left (two at_two.1.0) s o top top (left - 3)
   light_operated op = two_operated at_two both (op top)
 
 -- 25: the condition's node is `m`.
@@ -153,13 +154,13 @@ module _ {bs env s : List ℕ} {top n m left : ℕ} (x : Visited bs env s top 25
   unfolding valueᵉ
   bool_evaluates {s₁} {y} {l} {s₂} {end} h put =
       let made = put (truth_value y) (truth_code y) in
-      let q = made.light (omega arith) in
+      let q = made_ends made in
       settled_by x bool_of (kind_of_law 25 bool_of refl) (same_trans top top s s₁ s₂ h.frame made.frame (omega arith))
-      (omega (arith, q.0, x.ready.tall))
+      (omega (arith, q.1, x.ready.tall))
       (λ i. let z = held_below (after x i) bool_child w (Truth y l) h in (
         gives (truth_value y),
         visits x i _ (then_done _ z (light_form n (truth_value y) _ (omega arith) z.steps)),
-        record { value = truth_value y; is = refl; stands = q.1; below = omega (arith, q.0); same = refl },
+        record { value = truth_value y; is = refl; stands = q.2; below = omega (arith, q.1); same = refl },
       ))
 
 -- 34: the range's node is `m`.
@@ -179,11 +180,11 @@ module _ {bs env s : List ℕ} {top k n m left : ℕ} where
     abbrev h : EvaluatesE bs env s top m (left - 1) s₁ (Placed at next l)
     h = g.placed
 
-    pub select_unlike : RangeAt s₁ at Unlike → EvaluatesE bs env s top n left s₁ (Stopped (record { number = 15; place = n }) l)
+    pub select_unlike : RangeAt s₁ at None → EvaluatesE bs env s top n left s₁ (Stopped (record { number = 15; place = n }) l)
     unfolding valueᵉ
     select_unlike y = stopped_by b.visited comprehension b.code h.frame (λ i. range_unlike b h y i _)
 
-    module _ {count : ℕ} (y : RangeAt s₁ at (Set count)) where
+    module _ {count : ℕ} (y : RangeAt s₁ at (Some count)) where
       pub select_asks : {t : ℕ} → 5 * n + 1 ≡ t → (5 * n < t) × EachReady bs env s₁ next n (at + 1) count 256
       select_asks e = (omega arith, each_ready b h y 256 (omega arith) (λ _. refl))
 
@@ -196,7 +197,7 @@ module _ {bs env s : List ℕ} {top k n m left : ℕ} where
 
       -- The set has been built at `next`.
       pub select_operated : {s₂ : List ℕ} {f : Formed} {to end u : ℕ} → EvaluatesChosen bs env s₁ next n (at + 1) count l s₂ f → f ≡ Placed to end u →
-          Operated bs env s top k n left comprehension s₂ (Built end) next next u
+          Operated bs env s top k n left comprehension s₂ (Ok (Built end)) next next u
       unfolding valueᵉ
       select_operated {s₂} c q =
           let ch = chosen_as q c in

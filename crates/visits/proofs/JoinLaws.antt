@@ -1,14 +1,16 @@
 -- Joins by their codes; then the run at the node, part by part, and with it what the answers for the conditions below make of the node's.
-use Rattle.visits.proofs.Terms.{ℕ, ◌+◌, ◌-◌, ◌*◌, ◌<◌, Bool, true, false, not, cond, Bool·beq, List, ◌⊎◌, inl, inr, ◌≢◌, nothing, some, ◌≡◌, refl, sym, subst, arith, eqb}
-use Rattle.visits.proofs.Terms.{predicate, and, or, implies, iff, join, holdsᵖ, Same, same_trans, code_of_law, Refusal, Held, Truth, Refused, HeldAs, NodeReady, Visited, Sort, Asks, EvaluatesP, field_a, field_b, IsPred, Join, DecidesBy, JoinedBy, join_code, same_join}
+use Rattle.visits.proofs.Terms.{ℕ, ◌+◌, ◌-◌, ◌*◌, ◌<◌, Bool, true, false, not, Bool·beq, List, ◌≢◌, ◌≡◌, refl, sym, subst, arith}
+use Rattle.visits.proofs.Terms.{predicate, and, or, implies, iff, join, holdsᵖ, Same, same_trans, code_of_law, Refusal, Held, Truth, Refused, HeldAs, NodeReady, Visited, Sort, Asks, EvaluatesP, field_a, field_b, IsPred, Join, decided, DecidesBy, JoinedBy, join_code, same_join, Some, None}
+use Rattle.std.specs.Prelude.{Option}
+use Rattle.std.specs.Bool.{then_some}
 use Rattle.rules.specs.Operations as rules
 use Rattle.visits.proofs.RunLaws.{then_done, then_refused, returns}
 use Rattle.visits.proofs.NodeLaws.{Child, ready_child, visited_child, held_as}
 use Rattle.visits.proofs.NodeLaws.{asks_on, visits, after, holds_in, held_below, held_by}
 
 -- Where the first truth of a join decides, and what.
-first_decides : (p : Bool) → (rules.decides and p ≡ cond (not p) (some false) nothing) × (rules.decides or p ≡ cond p (some true) nothing) ×
-    (rules.decides implies p ≡ cond (not p) (some true) nothing)
+first_decides : (p : Bool) → (rules.decides and p ≡ decided (then_some (not p) false)) × (rules.decides or p ≡ decided (then_some p true)) ×
+    (rules.decides implies p ≡ decided (then_some (not p) true))
 first_decides true = (refl, refl, refl)
 first_decides false = (refl, refl, refl)
 
@@ -20,18 +22,21 @@ iff_left n1 n2 n3 implies c = absurd (n3 c)
 iff_left n1 n2 n3 iff c = refl
 
 module _ {k : ℕ} (p : Bool) where
-  decides_by : (r : Bool) (i : Join) → k ≡ join_code i → rules.decides i p ≡ cond r (some (not (eqb (join_code i) 1))) nothing → DecidesBy k p r
-  decides_by r i c h j e = subst (λ (x : Join). rules.decides x p ≡ cond r (some (not (eqb k 1))) nothing) (same_join k i j c e) (rw c h)
+  module _ (r : Option Bool) where
+    decides_by : (i : Join) → k ≡ join_code i → rules.decides i p ≡ decided r → DecidesBy k p r
+    decides_by i c h j e = subst (λ (x : Join). rules.decides x p ≡ decided r) (same_join k i j c e) h
 
-  pub decides_13 : (k ≡ 1) ⊎ (k ≡ 3) → DecidesBy k p (not p)
-  decides_13 (inl c) = decides_by (not p) and c (first_decides p).0
-  decides_13 (inr c) = decides_by (not p) implies c (first_decides p).2
+    pub decides_1 : k ≡ 1 → r ≡ then_some (not p) false → DecidesBy k p r
+    decides_1 c q = decides_by and c (rw q (first_decides p).0)
 
-  pub decides_2 : k ≡ 2 → DecidesBy k p p
-  decides_2 c = decides_by p or c (first_decides p).1
+    pub decides_2 : k ≡ 2 → r ≡ then_some p true → DecidesBy k p r
+    decides_2 c q = decides_by or c (rw q (first_decides p).1)
 
-  pub decides_5 : ((k ≡ 1) ⊎ (k ≡ 3) → ⊥) → k ≢ 2 → DecidesBy k p false
-  decides_5 n13 n2 j e = rw (← iff_left (λ c. n13 (inl c)) n2 (λ c. n13 (inr c)) j (code_of_law k (join j) e))
+    pub decides_3 : k ≡ 3 → r ≡ then_some (not p) true → DecidesBy k p r
+    decides_3 c q = decides_by implies c (rw q (first_decides p).2)
+
+  pub decides_5 : k ≢ 1 → k ≢ 2 → k ≢ 3 → DecidesBy k p None
+  decides_5 n1 n2 n3 j e = rw (← iff_left n1 n2 n3 j (code_of_law k (join j) e))
 
   module _ (q : Bool) where
     pub joined_by : {r : Bool} (i : Join) → k ≡ join_code i → r ≡ rules.joined i p q → JoinedBy k p q r
@@ -62,19 +67,19 @@ module _ {bs env s : List ℕ} {top k n left : ℕ} (at_join : Visited bs env s 
     join_stays {p} {l} d =
         held_as refl (sym d) (held_by v (join j) at_join.1.1 h.frame (λ i. visits v i _ (then_refused _ (join_first (Refused p l) d i))))
 
-    module _ {y : Bool} {l : ℕ} (d : r ≡ Truth y l) {o : Bool} (by : DecidesBy k y o) where
-      decided : {b : Bool} → o ≡ b → rules.decides j y ≡ cond b (some (not (eqb k 1))) nothing
-      decided c = rw c at (by j at_join.1.1)
+    module _ {y : Bool} {l : ℕ} (d : r ≡ Truth y l) {o : Option Bool} (by : DecidesBy k y o) where
+      decided_as : {b : Option Bool} → o ≡ b → rules.decides j y ≡ decided b
+      decided_as c = rw c at (by j at_join.1.1)
 
       -- It decides.
-      pub join_short : o ≡ true → EvaluatesP bs env s top n left s' (Truth (not (eqb k 1)) l)
+      pub join_short : {b : Bool} → o ≡ Some b → EvaluatesP bs env s top n left s' (Truth b l)
       unfolding holdsᵖ
       join_short c =
           held_by v (join j) at_join.1.1 h.frame (λ i.
-          let w = join_first (Truth y l) d i in visits v i _ (then_done _ w (rw (decided c) (returns _ w.steps))))
+          let w = join_first (Truth y l) d i in visits v i _ (then_done _ w (rw (decided_as c) (returns _ w.steps))))
 
       -- It does not, and the second operand's node is `m`.
-      module _ (c : o ≡ false) {m : ℕ} (qb : m ≡ field_b bs n) where
+      module _ (c : o ≡ None) {m : ℕ} (qb : m ≡ field_b bs n) where
         join_next : Child bs n m predicate
         join_next = visited_child v (join j) at_join.1.1 predicate 1 m (omega arith) (omega arith) refl qb
 
@@ -93,7 +98,7 @@ module _ {bs env s : List ℕ} {top k n left : ℕ} (at_join : Visited bs env s 
           unfolding holdsᵖ
           join_stays_2 {p} {u} d' =
               held_as refl (sym d') (held_by v (join j) at_join.1.1 join_frame (λ i.
-              visits v i _ (then_done _ (join_first (Truth y l) d i) (rw (decided c)
+              visits v i _ (then_done _ (join_first (Truth y l) d i) (rw (decided_as c)
               (then_refused _ (held_below (second i) join_next qb (Refused p u) (held_as refl d' h')))))))
 
           pub join_both : {z w : Bool} {u : ℕ} → r' ≡ Truth z u → JoinedBy k y z w → EvaluatesP bs env s top n left s'' (Truth w u)
@@ -101,5 +106,5 @@ module _ {bs env s : List ℕ} {top k n left : ℕ} (at_join : Visited bs env s 
           join_both {z} {w} {u} d' is =
               held_by v (join j) at_join.1.1 join_frame (λ i.
               let t = held_below (second i) join_next qb (Truth z u) (held_as refl d' h') in
-              visits v i _ (then_done _ (join_first (Truth y l) d i) (rw (decided c)
+              visits v i _ (then_done _ (join_first (Truth y l) d i) (rw (decided_as c)
               (then_done _ t (rw (sym (is j at_join.1.1)) (returns w t.steps))))))

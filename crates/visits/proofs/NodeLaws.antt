@@ -1,6 +1,6 @@
 -- The children of a node, its tree, what its evaluators pass on to theirs, and its answer from theirs.
 use Rattle.visits.proofs.Terms.{ℕ, zero, suc, ◌+◌, ◌-◌, ◌*◌, ◌≤◌, ◌<◌, Bool, true, List, [], ◌∷◌, Option, nothing, some, ◌≡◌, refl, sym, ap, ◌∙◌, subst, arith, T, length, get_or, category_of, Field, is_child, Table, fields_if, pick, held, expr_of, FieldRight, FieldsRight, KindRight, NodeRight, FormedAs, FormedBounds, SettledAs, SettleReady, RefusalOf, StopOf}
-use Rattle.visits.proofs.Terms.{Value, Kind, Category, predicate, expression, unused, child, kind_of, fields_of, Node, Pred, Expr, table_of, node_at, kind_at, field_words, pred_of, pred_at, expr_at, node_count, Readable, CategoryIs, Env, End, refused, Run, M, ◌>>◌, visit, Given, holdsᵖ, valueᵉ, Same, stands_frame, same_refl, same_trans, length_code, built, Builds, GoodAt, Gives, Outcome, Held, Refused, Formed, Placed, Stopped, Refusal, EndsWith, HeldAs, field_a, field_b, condition_cells, expression_cells, cells_for, Binds, NodeReady, Visited, Asks, truth_at, value_at, EvaluatesP, EvaluatesE, Settles, good, height, tallest, nodes_length, height_at, value_good, constants_frame}
+use Rattle.visits.proofs.Terms.{Value, Kind, Category, predicate, expression, unused, child, kind_of, fields_of, Node, Pred, Expr, table_of, node_at, kind_at, field_words, pred_of, pred_at, expr_at, node_count, Readable, CategoryIs, Env, End, refused, Run, M, ◌>>◌, visit, Given, holdsᵖ, valueᵉ, Same, stands_frame, same_refl, same_trans, length_code, built, Builds, GoodAt, Gives, NodeAnswer, Outcome, Result, Ok, Err, numbered, GivesNumbered, Held, Refused, Formed, Placed, Stopped, Refusal, EndsWith, HeldAs, field_a, field_b, condition_cells, expression_cells, cells_for, Binds, NodeReady, Visited, Asks, truth_at, value_at, EvaluatesP, EvaluatesE, Settles, good, height, tallest, nodes_length, height_at, value_good, constants_frame}
 use Rattle.laws.proofs.TableLaws.{tallest_kept}
 pub use Rattle.operations.proofs.GoodLaws.{sizes_small}
 use Rattle.visits.proofs.RunLaws.{visited, end_of}
@@ -284,7 +284,7 @@ module _ {bs env s : List ℕ} {top k n left : ℕ} (v : Visited bs env s top k 
       settled_as bs i.budget f n i.values i.steps v.ready.readable i.binds.good y.0 (rw q y.1) s' r y.2)
 
 -- What a node gives stands in the arena s₂ that its operation leaves, to be settled. The node has operands.
-pub record Operated (bs env s : List ℕ) (top k n left : ℕ) (x : Kind) (s₂ : List ℕ) (o : Outcome) (mid next l : ℕ) : Type 0 where
+pub record Operated (bs env s : List ℕ) (top k n left : ℕ) (x : Kind) (s₂ : List ℕ) (o : NodeAnswer) (mid next l : ℕ) : Type 0 where
   pub visited : Visited bs env s top k n left
   pub code : kind_of k ≡ some x
   pub tall : 2 ≤ height (table_of bs).nodes n
@@ -295,14 +295,19 @@ pub record Operated (bs env s : List ℕ) (top k n left : ℕ) (x : Kind) (s₂ 
   pub room : next + 514 ≤ length s₂
   pub gives : (i : Asks bs env s top n left) → (g : Given) × EndsWith (treeᵉ x i) (end_of n g) i.budget l × Gives s₂ mid next g o
 
-module _ {bs env s : List ℕ} {top k n left : ℕ} {x : Kind} {s₂ : List ℕ} {o : Outcome} {mid next l : ℕ}
-    (p : Operated bs env s top k n left x s₂ o mid next l) where
-  pub settle_asks : SettleReady s₂ o mid next top
+-- The answer tells the same by the refusal's number.
+gives_numbered : (s : List ℕ) (mid top : ℕ) (g : Given) (o : NodeAnswer) → Gives s mid top g o → GivesNumbered s mid top g (numbered o)
+gives_numbered s mid top g (Ok outcome) h = h
+gives_numbered s mid top g (Err lack) h = h
+
+module _ {bs env s : List ℕ} {top k n left : ℕ} {x : Kind} {s₂ : List ℕ} {o : NodeAnswer} {mid next l : ℕ}
+    (p : Operated bs env s top k n left x s₂ o mid next l) {a : Result Outcome ℕ} (e : a ≡ numbered o) where
+  pub settle_asks : SettleReady s₂ a mid next top
   settle_asks =
       let y = p.gives (some_asks n left p.visited.ready) in
-      record { given = y.0; gives = y.2; low = p.low; high = p.high; order = p.order; room = p.room }
+      record { given = y.0; gives = rw e (gives_numbered s₂ mid next y.0 o y.2); low = p.low; high = p.high; order = p.order; room = p.room }
 
-  pub settle_tells : {s₃ : List ℕ} {r : Formed} → Settles s₂ o mid next top n l s₃ r → EvaluatesE bs env s top n left s₃ r
+  pub settle_tells : {s₃ : List ℕ} {r : Formed} → Settles s₂ a mid next top n l s₃ r → EvaluatesE bs env s top n left s₃ r
   settle_tells {s₃} st =
       settled_by p.visited x p.code (same_trans top top s s₂ s₃ p.frame st.frame (omega arith)) (st.bounds _ p.tall) (λ i.
-      let y = p.gives i in (y.0, y.1, st.answer y.0 y.2))
+      let y = p.gives i in (y.0, y.1, st.answer y.0 (rw e (gives_numbered s₂ mid next y.0 o y.2))))

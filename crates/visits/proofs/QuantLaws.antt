@@ -1,7 +1,7 @@
 -- The loop over the members of a quantifier's range, turn by turn, and the quantifier's node: what is given for the rest of the range is
 -- given for the whole.
 use Rattle.visits.proofs.Terms.{ℕ, ◌+◌, ◌-◌, ◌*◌, ◌<◌, Bool, true, false, not, cond, Bool·beq, List, [], ◌∷◌, some, ◌≡◌, refl, sym, ap, ◌∙◌, arith, eqb, false≢true, set_at, Quant, quantify, quant_of, EvaluatesEach}
-use Rattle.visits.proofs.Terms.{Value, members, for_all, for_some, quant, kind_of, End, done, refused, Run, M, holdsᵖ, EndsAt, same_refl, same_trans, code_of_law, Refusal, RefusalOf, Held, Truth, Refused, Formed, Stopped, Set, Unlike, EndsWith, HeldAs, field_a, field_b, field_c, IsPred, RangeAt, NodeReady, Visited, Sort, AsksEach, body_of, EachReady, EvaluatesP, EvaluatesE, quant_code}
+use Rattle.visits.proofs.Terms.{Value, members, for_all, for_some, quant, kind_of, End, done, refused, Run, M, holdsᵖ, EndsAt, same_refl, same_trans, code_of_law, Refusal, RefusalOf, Held, Truth, Refused, Formed, Stopped, Some, None, EndsWith, HeldAs, field_a, field_b, field_c, IsPred, RangeAt, NodeReady, Visited, Sort, AsksEach, body_of, EachReady, EvaluatesP, EvaluatesE, quant_code}
 use native.Mathlib.Nat.{le_refl}
 use Rattle.visits.proofs.RunLaws.{then_done, then_refused, returns}
 use Rattle.visits.proofs.NodeLaws.{held_as, formed_as, refusal_is, held_by}
@@ -54,9 +54,9 @@ pub record Turning (bs env s₀ : List ℕ) (top : ℕ) (all : Bool) (node from 
       EndsWith (quantify (quant_of all) (body_of k) (members k.range) k.asks.steps) e k.asks.budget l
 
 -- Before the first turn.
-pub turning_start : {bs env s : List ℕ} {top node from count left : ℕ} (all : Bool) (x : ℕ) → EachReady bs env s top node from count 0 →
-    Turning bs env s top all node from count left x s env from count left
-turning_start all x r = record { loop = loop_start x r; gives = λ k e l h. h }
+pub turning_start : {bs env s : List ℕ} {top node from count left more : ℕ} (all : Bool) (x : ℕ) → more ≡ count →
+    EachReady bs env s top node from count 0 → Turning bs env s top all node from count left x s env from more left
+turning_start all x z r = rw z (record { loop = loop_start x r; gives = λ k e l h. h })
 
 -- A turn: the member at `at` is bound to x, and the body, node b, is to run.
 pub member_asks : {bs env s₀ : List ℕ} {top : ℕ} {all : Bool} {node from count left x : ℕ} {s inner : List ℕ} {at more n b t : ℕ} →
@@ -64,13 +64,19 @@ pub member_asks : {bs env s₀ : List ℕ} {top : ℕ} {all : Bool} {node from c
     b ≡ field_c bs node → 5 * node ≡ t → (5 * b + 3 < t) × (NodeReady bs (set_at inner x at) s top b × IsPred bs b)
 member_asks {top = top} r i l ex ey e = body_asks r i.loop l (le_refl top) ex ey e (λ b. omega (arith, r.ready.room b, i.loop.frame.kept))
 
+-- It has run.
+pub turned : {bs env s₀ : List ℕ} {top : ℕ} {all : Bool} {node from count left x : ℕ} {s inner : List ℕ} {at more n b : ℕ} {s' : List ℕ} {h : Held} →
+    EachReady bs env s₀ top node from count 0 → (i : Turning bs env s₀ top all node from count left x s inner at more n) → 0 < more →
+    x ≡ field_a bs node → b ≡ field_c bs node → EvaluatesP bs (set_at inner x at) s top b n s' h → Ran i.loop 0 top b s' h
+turned {top = top} r i left name body told =
+    record { ready = r; some = left; low = le_refl top; name = name; body = body; told = told }
+
 -- Any end of one run is that of the other.
 held_on : {x y : Run Bool} {budget : ℕ} (r : Held) → ((e : End Bool) (l : ℕ) → EndsWith x e budget l → EndsWith y e budget l) →
     HeldAs x budget r → HeldAs y budget r
 held_on (Truth b l) g h = g (done b) l h
 held_on (Refused r l) g h = g (refused r.number r.place) l h
 
--- It has run.
 module _ {bs env s₀ : List ℕ} {top : ℕ} {all : Bool} {node from count left x : ℕ} {s inner : List ℕ} {at more n b : ℕ} {s' : List ℕ} {h : Held}
     (i : Turning bs env s₀ top all node from count left x s inner at more n) (u : Ran i.loop 0 top b s' h) where
   -- The body is refused, or decides.
@@ -84,16 +90,16 @@ module _ {bs env s₀ : List ℕ} {top : ℕ} {all : Bool} {node from count left
   }
 
   -- The body does not decide, and the next member stands at `end`.
-  pub turning_on : (got : Bool) (l end : ℕ) → h ≡ Truth got l → got ≡ all → EndsAt s' at end →
-      Turning bs env s₀ top all node from count left x s' (set_at inner x at) end (more - 1) l
-  turning_on got l end e q z =
+  pub turning_on : (got : Bool) (l end : ℕ) {fewer : ℕ} → fewer ≡ more - 1 → h ≡ Truth got l → got ≡ all → EndsAt s' at end →
+      Turning bs env s₀ top all node from count left x s' (set_at inner x at) end fewer l
+  turning_on got l end less e q z =
       let d : h ≡ Truth all l = e ∙ ap (λ (z : Bool). Truth z l) q in
-      record {
+      rw less (record {
         loop = loop_next u z all d (same_refl top s');
         gives = λ k e₁ l₁ h₁.
             let v = ran_at u k in
             i.gives k e₁ l₁ (rw v.is (quantify_on (body_of k) all v.value (members v.rest) (i.loop.now k) (body_ends u (Truth all l) d k) h₁));
-      }
+      })
 
 -- After the last turn.
 pub members_done : {bs env s₀ : List ℕ} {top : ℕ} {all : Bool} {node from count left x : ℕ} {s inner : List ℕ} {at more n : ℕ} →
@@ -125,11 +131,11 @@ module _ {bs env s : List ℕ} {top k n left a : ℕ} {j : Quant} where
 
   module _ {s' : List ℕ} {at next l : ℕ} (g : Ranged bs env s top k n left a (quant j) s' at next l) where
     -- The range is no set.
-    pub quant_unlike : RangeAt s' at Unlike → EvaluatesP bs env s top n left s' (Refused (record { number = 15; place = n }) l)
+    pub quant_unlike : RangeAt s' at None → EvaluatesP bs env s top n left s' (Refused (record { number = 15; place = n }) l)
     unfolding holdsᵖ
     quant_unlike y = held_by g.binder.visited (quant j) g.binder.code g.placed.frame (λ i. range_unlike g.binder g.placed y i _)
 
-    module _ {m : ℕ} (y : RangeAt s' at (Set m)) where
+    module _ {m : ℕ} (y : RangeAt s' at (Some m)) where
       pub quant_asks : {t : ℕ} → 5 * n + 1 ≡ t → (5 * n < t) × EachReady bs env s' next n (at + 1) m 0
       quant_asks e = (omega arith, each_ready g.binder g.placed y 0 (omega arith) (λ z. absurd (omega arith)))
 

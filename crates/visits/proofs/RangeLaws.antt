@@ -1,13 +1,12 @@
 -- A binder's range: its fields, its part of the node's run, the members of a set that stands in the arena, what the loop over them may take for
 -- granted, and `range_of`.
 use Rattle.visits.proofs.Terms.{ℕ, ◌+◌, ◌-◌, ◌*◌, ◌≤◌, ◌<◌, Bool, true, false, List, [], ◌∷◌, some, ◌≡◌, refl, sym, ap, ◌∙◌, subst, arith, T, length, get_or, ◌%◌, set, typed, demand, cell_size, RangeSet, SomeGood, T_true}
-use Rattle.visits.proofs.Terms.{Value, Values, count, Kind, Category, expression, predicate, unused, child, kind_of, fields_of, fits, table_of, node_at, kind_at, field_words, End, refused, Run, M, ◌>>=◌, ◌>>◌, visit, binds_length, good_weight, code, codes, built, Sizes, GoodAt, good_fits, good_inside, Placed, Stopped, Refusal, Set, Unlike, EndsWith, PlacedAs, Listed, field_a, field_b, field_c, RangeAt, expression_cells, NodeReady, Visited, Asks, AsksEach, value_at, EvaluatesE, EachReady, P̂, t̂, quant_rule, good_typed, elems_good, stands_tail, good_typed_at}
+use Rattle.visits.proofs.Terms.{Value, Values, count, Kind, Category, expression, predicate, unused, child, kind_of, fields_of, fits, table_of, node_at, kind_at, field_words, End, refused, Run, M, ◌>>=◌, ◌>>◌, visit, binds_length, good_weight, code, codes, built, Sizes, GoodAt, good_fits, good_inside, Placed, Stopped, Refusal, Some, None, EndsWith, PlacedAs, Listed, field_a, field_b, field_c, RangeAt, expression_cells, NodeReady, Visited, Asks, AsksEach, value_at, EvaluatesE, EachReady, P̂, t̂, quant_rule, good_typed, elems_good, stands_tail, good_typed_at}
 use Rattle.laws.proofs.BindingLaws.{binder_fields}
 use Rattle.arena.proofs.ValueParts.{first_cell_law}
 use Rattle.fitting.specs.Tests.{FitOne}
 use Rattle.fitting.proofs.Tests.{fits_set}
 use Rattle.operations.proofs.SingleLaws.{fits_is_set}
-use Rattle.visits.specs.declared.Range.{Range}
 use Rattle.visits.proofs.RunLaws.{then_done, then_refused, fitting_on, fitting_refused}
 use Rattle.visits.proofs.NodeLaws.{Child, sizes_small, field_holds, condition_cells_law, ready_child, visited_kind, visited_builds, visited_child}
 use Rattle.visits.proofs.NodeLaws.{some_asks, asks_on, visits, after, value_in, formed_below}
@@ -92,7 +91,7 @@ module _ {bs env s : List ℕ} {top k n left a : ℕ} {x : Kind} (b : Binder bs 
     range_low = omega (arith, good_inside small some_range.place, h.frame.kept, r.small)
 
     -- It is no set.
-    pub range_unlike : {A : Type 0} → RangeAt s₁ at Unlike → (i : Asks bs env s top n left) (f : Value → M A) →
+    pub range_unlike : {A : Type 0} → RangeAt s₁ at None → (i : Asks bs env s top n left) (f : Value → M A) →
         EndsWith (ranged i f) (refused 15 n) i.budget l
     range_unlike y i f =
         let v = placed_range (after b.visited i) in
@@ -100,7 +99,7 @@ module _ {bs env s : List ℕ} {top k n left a : ℕ} {x : Kind} (b : Binder bs 
         (fitting_refused n quant_rule (v.value ∷ []) (f v.value) _ (y (table_of bs).sizes next v.value small v.place) v.ends.steps))
 
     -- It is a set of `count` members.
-    module _ {count : ℕ} (y : RangeAt s₁ at (Set count)) where
+    module _ {count : ℕ} (y : RangeAt s₁ at (Some count)) where
       pub each_ready : (spare : ℕ) → spare ≤ 128 + expression_cells (some x) → (0 < spare → built (some x) ≡ true) →
           EachReady bs env s₁ next n (at + 1) count spare
       each_ready spare enough builds =
@@ -142,17 +141,13 @@ module _ {bs env s : List ℕ} {top k n left a : ℕ} {x : Kind} (b : Binder bs 
             let fit = set_fits is_set_law.members (good_typed (table_of bs).sizes v (rw is_set_law.is at placed.place.good)) in
             visits b.visited i _ (then_done _ (rw is_set_law.is at placed.ends) (fitting_on n quant_rule (v ∷ []) (f v) _ fit z))
 
--- The same range under equal names.
-pub range_as : {s : List ℕ} {at : ℕ} {r r' : Range} → r ≡ r' → RangeAt s at r → RangeAt s at r'
-range_as q h = rw q at h
-
 -- `range_of`: the first cell of a set has the number of its members.
 module _ {s : List ℕ} {at : ℕ} where
   module _ {r : Bool} (f : FitOne (P̂ t̂ ∷ []) s at r) where
-    pub range_not : r ≡ false → RangeAt s at Unlike
+    pub range_not : r ≡ false → RangeAt s at None
     range_not e gs top v q h = sym (f v (good_typed_at q h)) ∙ e
 
-    pub range_set : r ≡ true → (n : ℕ) → n ≡ get_or s at 0 % 4294967296 → RangeAt s at (Set n)
+    pub range_set : r ≡ true → (n : ℕ) → n ≡ get_or s at 0 % 4294967296 → RangeAt s at (Some n)
     range_set e n c gs top v q h =
         let x = fits_is_set v (sym (f v (good_typed_at q h)) ∙ e) in
         let g = subst (λ (w : Value). GoodAt gs s top at w) x.1 h in

@@ -1,31 +1,21 @@
--- What a node gives is settled at its top, and a member that is chosen is copied behind those before it.
-use Rattle.visits.proofs.Terms.{ℕ, ◌+◌, ◌-◌, ◌≤◌, Bool, true, false, List, [], ◌∷◌, ◌⊎◌, inl, inr, ◌≡◌, refl, sym, ap, ◌∙◌, arith, length, Copied, WithinAt, GivenCell}
-use Rattle.visits.proofs.Terms.{subst, ValueAt, Value, weight, Given, code, Same, length_code, same_refl, copied_stands, Outcome, BuiltAt, Gives, Formed, Placed, Stopped, SettleReady, ChooseReady, Chooses, Settles, Built, Within, Cell, Lacks, PutsCell, absurd01}
+-- What a node gives is settled at its top.
+use Rattle.arena.proofs.MadeLaws.{made_ends}
+use Rattle.visits.proofs.Terms.{ℕ, ◌+◌, ◌-◌, ◌≤◌, List, [], ◌∷◌, ◌≡◌, refl, sym, ap, ◌∙◌, arith, length, Copied, WithinAt, GivenCell}
+use Rattle.visits.proofs.Terms.{subst, ValueAt, Value, weight, Given, code, Same, length_code, same_refl, copied_stands, Outcome, BuiltAt, GivesNumbered, Formed, Placed, Stopped, SettleReady, Settles, Built, Within, Cell, Result, Ok, Err, PutsCell}
 
 -- Copying changes nothing below its place.
 copied_frame : {s s' : List ℕ} {from n to : ℕ} → Copied s from n to s' → Same to s s'
 copied_frame c = record { same = c.before; kept = c.kept }
 
-module _ {s : List ℕ} {at end to : ℕ} where
-  pub choose_room : ChooseReady s at end to → (at + (end - at) ≤ length s) × (to + (end - at) ≤ length s) × ((at + (end - at) ≤ to) ⊎ (to ≤ at))
-  choose_room p = (omega (arith, p.forward, p.behind, p.room), p.room, inl (omega (arith, p.forward, p.behind)))
-
-  module _ {yes : Bool} where
-    pub chooses_none : yes ≡ false → Chooses s at end yes to s to
-    chooses_none e = record { frame = same_refl to s; kept = λ t. absurd (absurd01 (cc)); ends = rw e (omega arith) }
-
-    pub chooses_copy : {s' : List ℕ} → yes ≡ true → Copied s at (end - at) to s' → Chooses s at end yes to s' (to + (end - at))
-    chooses_copy e c = record { frame = copied_frame c; kept = λ _. c; ends = rw e refl }
-
 one_weighs : (v : Value) {x : ℕ} → code v ≡ x ∷ [] → weight v ≡ 1
 one_weighs v {x} e = sym (length_code v) ∙ ap length e
 
-module _ {s : List ℕ} {r : Outcome} {mid next top : ℕ} (p : SettleReady s r mid next top) where
-  pub settles_lacks : {node left k : ℕ} {x : Formed} → r ≡ Lacks k → x ≡ Stopped (record { number = k; place = node }) left →
+module _ {s : List ℕ} {r : Result Outcome ℕ} {mid next top : ℕ} (p : SettleReady s r mid next top) where
+  pub settles_lacks : {node left : ℕ} {k : ℕ} {x : Formed} → r ≡ Err k → x ≡ Stopped (record { number = k; place = node }) left →
       Settles s r mid next top node left s x
   settles_lacks e q = rw q (record { frame = same_refl top s; bounds = λ h l. tt; answer = λ g h. (rw e at h, refl, refl) })
 
-  pub settles_within : {node left at : ℕ} → r ≡ Within at → Settles s r mid next top node left s (Placed at mid left)
+  pub settles_within : {node left at : ℕ} → r ≡ Ok (Within at) → Settles s r mid next top node left s (Placed at mid left)
   settles_within {node} {left} {at} e = record {
     frame = same_refl top s;
     bounds = λ h l. omega (arith, p.low, p.high);
@@ -35,24 +25,24 @@ module _ {s : List ℕ} {r : Outcome} {mid next top : ℕ} (p : SettleReady s r 
   }
 
   -- The only cell of a value is written.
-  pub settles_cell : {node left x end : ℕ} {s' : List ℕ} → r ≡ Cell x → PutsCell s top x s' end → Settles s r mid next top node left s' (Placed top end left)
+  pub settles_cell : {node left x end : ℕ} {s' : List ℕ} → r ≡ Ok (Cell x) → PutsCell s top x s' end →
+      Settles s r mid next top node left s' (Placed top end left)
   settles_cell {node} {left} {x} {end} {s'} e put =
-      let cell : (g : Given) → Gives s mid next g r → GivenCell g x = λ g h. rw e at h in
+      let cell : (g : Given) → GivesNumbered s mid next g r → GivenCell g x = λ g h. rw e at h in
       let some = cell p.given p.gives in
       let made = put some.value some.cell in
       let one = one_weighs some.value some.cell in
       record {
         frame = made.frame;
-        bounds = λ h l. omega (arith, (made.light (omega (arith, one))).0, one);
+        bounds = λ h l. omega (arith, (made_ends made).1, one);
         answer = λ g h.
             let c = cell g h in
-            let w = one_weighs c.value c.cell in
-            let m = (put c.value c.cell).light (omega (arith, w)) in
-            record { value = c.value; is = c.is; stands = m.1; below = omega (arith, m.0); same = refl };
+            let m = made_ends (put c.value c.cell) in
+            record { value = c.value; is = c.is; stands = m.2; below = omega (arith, m.1); same = refl };
       }
 
-  module _ {end : ℕ} (e : r ≡ Built end) where
-    built_as : (g : Given) → Gives s mid next g r → BuiltAt s next g end
+  module _ {end : ℕ} (e : r ≡ Ok (Built end)) where
+    built_as : (g : Given) → GivesNumbered s mid next g r → BuiltAt s next g end
     built_as g h = rw e at h
 
     pub built_above : next ≤ end
@@ -71,10 +61,10 @@ module _ {s : List ℕ} {r : Outcome} {mid next top : ℕ} (p : SettleReady s r 
               record { value = x.value; is = x.is; stands = y; below = omega (arith, x.ends); same = refl };
         }
 
-    pub settle_room : (next + (end - next) ≤ length s) × (top + (end - next) ≤ length s) × ((next + (end - next) ≤ top) ⊎ (top ≤ next))
+    pub settle_room : (next + (end - next) ≤ length s) × (top + (end - next) ≤ length s)
     settle_room =
         let b = built_as p.given p.gives in
-        (omega (arith, b.ends, b.light, p.room), omega (arith, b.ends, b.light, p.low, p.order, p.room), inr (omega (arith, p.low, p.order)))
+        (omega (arith, b.ends, b.light, p.room), omega (arith, b.ends, b.light, p.low, p.order, p.room))
 
     pub settles_built : {node left : ℕ} {s' : List ℕ} → Copied s next (end - next) top s' →
         Settles s r mid next top node left s' (Placed top (top + (end - next)) left)

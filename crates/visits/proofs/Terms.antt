@@ -35,7 +35,7 @@ pub use Rattle.rules.specs.Rules.{test_rule, one_rule, two_rule, P̂, t̂, quant
 pub use Rattle.rules.proofs.Basics.{absurd01}
 pub use Rattle.laws.proofs.KindLaws.{kind_of_law, code_of_law, join_code, same_join, quant_code}
 unfoldable pub use Rattle.arena.specs.Code.{code}
-pub use Rattle.arena.specs.Code.{CellsFit, codes, Stands, Same, SomeAt, EndsAt, ValuesAt, ValueAt, cell_size, Copied}
+pub use Rattle.arena.specs.Code.{CellsFit, codes, Stands, Same, SomeAt, EndsAt, ValuesAt, ValueAt, cell_size, Copied, CopyIfReady, CopiedIf}
 pub use Rattle.arena.proofs.Standing.{stands_frame, same_refl, same_trans, copied_stands, stands_append, stands_tail, stands_front, stands_back}
 pub use Rattle.arena.proofs.CodeLaws.{length_code, length_codes}
 pub use Rattle.products.specs.Growing.{PutsCell}
@@ -44,19 +44,19 @@ pub use Rattle.constants.proofs.ConstantLaws.{constants_frame, leaf_one}
 pub use Rattle.operations.specs.Good.{Sizes, GoodAt, NewFirsts, KnownFunction}
 pub use Rattle.operations.proofs.GoodLaws.{good_fits, good_inside, good_above, function_known, good_typed_at}
 unfoldable pub use Rattle.operations.specs.Outcomes.{tested, one_given, two_given}
-pub use Rattle.operations.specs.Outcomes.{SomeOperands, BuiltAt, Gives, TestOf, LeafFits, LeafReady, LeafDone, OneReady, OneOf, TwoReady, TwoOf, LightOf, WithinAt, GivenCell, weighed, fitted, IsLight}
+pub use Rattle.operations.specs.Outcomes.{NodeAnswer, SomeOperands, BuiltAt, Gives, TestOf, LeafFits, LeafReady, LeafDone, OneReady, OneOf, TwoReady, TwoOf, LightOf, WithinAt, GivenCell, weighed, fitted, IsLight}
 pub use Rattle.reading.specs.declared.Refusal.{Refusal}
 pub use Rattle.laws.proofs.CellsLaws.{good_weight, size_below, count_weights, good_typed}
 pub use Rattle.laws.proofs.TableLaws.{sizes_length, binds_length, nodes_length, height_at}
 pub use Rattle.laws.proofs.EndLaws.{T_true, T_and, t_leb}
 pub use Rattle.laws.proofs.FormedLaws.{value_good, elems_good, with_good}
+pub use Rattle.operations.specs.declared.Outcome.TheVariants.{Built, Within, Cell}
 pub use Rattle.operations.specs.declared.Outcome.{Outcome}
-pub use Rattle.operations.specs.declared.Outcome.TheVariants.{Built, Within, Cell, Lacks}
 pub use Rattle.visits.specs.declared.Held.{Held}
 pub use Rattle.visits.specs.declared.Held.TheVariants.{Truth, Refused}
-pub use Rattle.visits.specs.Answers.{HeldAs, turned_by, Listed, EndsWith, PlacedAs, SelectedAs, SettleReady, FormedAs, FormedBounds, SettledAs, RefusalOf, StopOf, RangeSet}
+pub use Rattle.visits.specs.Answers.{HeldAs, turned_by, Listed, EndsWith, PlacedAs, SelectedAs, SettleReady, numbered, GivesNumbered, FormedAs, FormedBounds, SettledAs, RefusalOf, StopOf, RangeSet}
 pub use Rattle.visits.specs.Cycle.{NodeReady, truth_at, Passes, EvaluatesP, cells_for, Binds, AsksEach, body_of, EachReady, condition_cells, Visited, Sort, Asks, value_at, EvaluatesE, EvaluatesChosen, Settles, expression_cells, EvaluatesEach, StandingTwo}
-pub use Rattle.visits.specs.Nodes.{field_a, IsPred, field_c, entry_place, FunctionEntry, field_b, IsExpr, ChooseReady, Chooses, PlacedLeaf, RangeAt, leaf_place, PlaceReady, StandingReady, LeafNode, LeafFormed, FunctionLeaf, DecidesBy, JoinedBy, quant_of, SomeGood}
+pub use Rattle.visits.specs.Nodes.{field_a, IsPred, field_c, entry_place, FunctionEntry, field_b, IsExpr, PlacedLeaf, RangeAt, leaf_place, PlaceReady, StandingReady, LeafNode, LeafFormed, FunctionLeaf, decided, DecidesBy, JoinedBy, quant_of, SomeGood}
 pub use Rattle.visits.specs.declared.Formed.{Formed}
 pub use Rattle.visits.specs.declared.Formed.TheVariants.{Value as Placed, Stopped}
-pub use Rattle.visits.specs.declared.Range.TheVariants.{Set, Unlike}
+pub use Rattle.std.specs.Prelude.{Some, None, Result, Ok, Err}

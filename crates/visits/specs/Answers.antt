@@ -1,5 +1,5 @@
 -- What the evaluators answer for a run of the value rules. The values that a run forms do not matter to its answer.
-use Rattle.std.specs.Prelude.{ℕ, ◌+◌, ◌*◌, ◌≤◌, ◌<◌, Bool, false, not, List, [], ◌∷◌, ◌≡◌, T, length}
+use Rattle.std.specs.Prelude.{ℕ, ◌+◌, ◌*◌, ◌≤◌, ◌<◌, Bool, false, not, List, [], ◌∷◌, ◌≡◌, T, length, Option, Some, None, Result, Ok, Err}
 use Rattle.std.specs.Bool.{beq}
 use Rattle.rules.specs.Values.{Value, set, Values, members, count, weight, weights}
 use Rattle.rules.specs.Cells.{good}
@@ -11,14 +11,12 @@ use Rattle.rules.specs.Operations.{set_of}
 use Rattle.rules.specs.Safety.{All}
 use Rattle.arena.specs.Code.{ValueAt, ValuesAt}
 use Rattle.operations.specs.Good.{GoodAt}
-use Rattle.operations.specs.Outcomes.{Gives}
+use Rattle.operations.specs.Outcomes.{NodeAnswer, lack_number, Gives}
 use Rattle.operations.specs.declared.Outcome.{Outcome}
 use Rattle.visits.specs.declared.Held.{Held}
 use Rattle.visits.specs.declared.Held.TheVariants.{Truth, Refused}
 use Rattle.visits.specs.declared.Formed.{Formed}
 use Rattle.visits.specs.declared.Formed.TheVariants.{Value as Placed, Stopped}
-use Rattle.visits.specs.declared.Range.{Range}
-use Rattle.visits.specs.declared.Range.TheVariants.{Set, Unlike}
 
 -- A run's end, and the visits that the budget has left when it ends.
 pub record EndsWith {A : Type 0} (x : Run A) (e : End A) (budget left : ℕ) : Type 0 where
@@ -66,9 +64,9 @@ pub record RangeSet (v : Value) (n : ℕ) : Type 0 where
   pub is : v ≡ set members
   pub counted : n ≡ count members
 
-abbrev pub RangeAs : Value → Range → Type 0
-RangeAs v (Set n) = RangeSet v n
-RangeAs v Unlike = fits quant_rule.takes (v ∷ []) ≡ false
+abbrev pub RangeAs : Value → Option ℕ → Type 0
+RangeAs v (Some n) = RangeSet v n
+RangeAs v None = fits quant_rule.takes (v ∷ []) ≡ false
 
 -- n good values stand from `from` on, below `top`.
 pub record Listed (gs s : List ℕ) (top from n : ℕ) (vs : Values) : Type 0 where
@@ -105,9 +103,19 @@ abbrev pub SettledAs : Given → List ℕ → ℕ → ℕ → Formed → Type 0
 SettledAs g s node left (Placed at next l) = SettledAt g s left at next l
 SettledAs g s node left (Stopped r l) = (g ≡ lacks r.number) × (r.place ≡ node) × (l ≡ left)
 
-pub record SettleReady (s : List ℕ) (r : Outcome) (mid next top : ℕ) : Type 0 where
+-- What an operation answers, a refusal by its number.
+abbrev pub numbered : NodeAnswer → Result Outcome ℕ
+numbered (Ok outcome) = Ok outcome
+numbered (Err lack) = Err (lack_number lack)
+
+-- What such an answer tells, whatever the number.
+abbrev pub GivesNumbered : List ℕ → ℕ → ℕ → Given → Result Outcome ℕ → Type 0
+GivesNumbered s mid top g (Ok outcome) = Gives s mid top g (Ok outcome)
+GivesNumbered s mid top g (Err k) = g ≡ lacks k
+
+pub record SettleReady (s : List ℕ) (r : Result Outcome ℕ) (mid next top : ℕ) : Type 0 where
   pub given : Given
-  pub gives : Gives s mid next given r
+  pub gives : GivesNumbered s mid next given r
   pub low : top ≤ mid
   pub high : mid ≤ top + 256
   pub order : mid ≤ next

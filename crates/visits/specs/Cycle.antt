@@ -1,6 +1,6 @@
 -- The contracts of the evaluators that call each other, for every depth above the node, every environment that the offsets of the arena
 -- bind, and every budget and number of visits made that leave the visits that the evaluator is given.
-use Rattle.std.specs.Prelude.{ℕ, ◌+◌, ◌-◌, ◌*◌, ◌≤◌, ◌<◌, Bool, true, List, ◌≡◌, T, length, get_or}
+use Rattle.std.specs.Prelude.{ℕ, ◌+◌, ◌-◌, ◌*◌, ◌≤◌, ◌<◌, Bool, true, List, ◌≡◌, T, length, get_or, Result}
 use Rattle.std.proofs.Math.Option.{Option, none as nothing, some}
 use Rattle.rules.specs.Values.{Value, Values, members}
 use Rattle.rules.specs.Kinds.{Kind, Quant, kind_of, category_of, predicate, expression}
@@ -15,14 +15,14 @@ use Rattle.arena.specs.Code.{Same}
 use Rattle.constants.specs.Built.{Builds}
 use Rattle.constants.specs.Constants.{Constants}
 use Rattle.operations.specs.Good.{GoodAt, NewFirsts}
-use Rattle.operations.specs.Outcomes.{Gives, IsLight}
+use Rattle.operations.specs.Outcomes.{IsLight}
 use Rattle.operations.specs.declared.Outcome.{Outcome}
 use Rattle.visits.specs.declared.Held.{Held}
 use Rattle.visits.specs.declared.Formed.{Formed}
 use Rattle.visits.specs.declared.Bare.{Bare}
 use Rattle.visits.specs.declared.Places.{Places}
 use Rattle.visits.specs.Nodes.{IsPred, NoNegation, field_a, field_b, field_c, entry_place, FunctionEntry, PlacedLeaf, FunctionLeaf}
-use Rattle.visits.specs.Answers.{HeldAs, turned_by, FormedAs, FormedBounds, Listed, ChosenAs, ChosenBounds, SettledAs}
+use Rattle.visits.specs.Answers.{HeldAs, turned_by, FormedAs, FormedBounds, Listed, ChosenAs, ChosenBounds, GivesNumbered, SettledAs}
 
 -- The values of the identifiers are good and stand where the environment says, and those that it marks are functions; the constants stand in the
 -- cells of their nodes.
@@ -154,7 +154,7 @@ pub record StandingTwo (bs env : List ℕ) (k n left : ℕ) (r : Places) : Type 
   pub known : r.known ≡ true → FunctionLeaf bs env (field_a bs n)
 
 -- What a node gives has been settled at `top`. The node has operands, so that its height is 2 or more.
-pub record Settles (s : List ℕ) (o : Outcome) (mid next top node left : ℕ) (s' : List ℕ) (r : Formed) : Type 0 where
+pub record Settles (s : List ℕ) (o : Result Outcome ℕ) (mid next top node left : ℕ) (s' : List ℕ) (r : Formed) : Type 0 where
   pub frame : Same top s s'
   pub bounds : (h : ℕ) → 2 ≤ h → FormedBounds h top r
-  pub answer : (g : Given) → Gives s mid next g o → SettledAs g s' node left r
+  pub answer : (g : Given) → GivesNumbered s mid next g o → SettledAs g s' node left r

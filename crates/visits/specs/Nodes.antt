@@ -1,20 +1,18 @@
 -- What the evaluators take for granted of single nodes, and the contracts of the functions that they use.
-use Rattle.std.specs.Prelude.{ℕ, ◌+◌, ◌-◌, ◌%◌, ◌≤◌, ◌<◌, Bool, true, false, cond, not, List, ◌≢◌, ◌≡◌, eqb, length, get_or}
-use Rattle.std.proofs.Math.Option.{none as nothing, some}
+use Rattle.std.specs.Prelude.{ℕ, ◌%◌, ◌≤◌, ◌<◌, Bool, true, false, List, ◌≢◌, ◌≡◌, length, get_or, Option, Some, None, IfSome}
+use Rattle.std.proofs.Math.Option.{Option as Maybe, none as nothing, some}
 use Rattle.rules.specs.Values.{Value}
 use Rattle.rules.specs.Kinds.{Join, join, Quant, for_all, for_some, predicate, expression, kind_of, leaf}
 use Rattle.rules.specs.Kinds.{Leaf, identifier, given_set, element_of, literal, truth_const, empty_set, bool_set}
 use Rattle.rules.specs.Tables.{table_of, node_at, kind_at, node_count}
 use Rattle.rules.specs.Readable.{Readable, CategoryIs}
 use Rattle.rules.specs.Operations as rules
-use Rattle.arena.specs.Code.{Same, Copied}
 use Rattle.constants.specs.Built.{built_leaf}
 use Rattle.operations.specs.Good.{Sizes, GoodAt}
 pub use Rattle.operations.specs.Good.{SomeGood}
 use Rattle.operations.specs.Outcomes.{LeafReady, LeafDone}
 use Rattle.visits.specs.declared.Formed.{Formed}
 use Rattle.visits.specs.declared.Formed.TheVariants.{Value as Placed}
-use Rattle.visits.specs.declared.Range.{Range}
 use Rattle.visits.specs.Answers.{RangeAs}
 
 -- The category of a node.
@@ -38,9 +36,13 @@ field_b bs n = (node_at (table_of bs).nodes n).b
 abbrev pub field_c : List ℕ → ℕ → ℕ
 field_c bs n = (node_at (table_of bs).nodes n).c
 
--- Whether the first truth of a join decides: it does with any truth but for 1, where it is false.
-abbrev pub DecidesBy : ℕ → Bool → Bool → Type 0
-DecidesBy k p r = (j : Join) → kind_of k ≡ some (join j) → rules.decides j p ≡ cond r (some (not (eqb k 1))) nothing
+-- The truth that the first operand of a join decides alone, if it does.
+abbrev pub decided : Option Bool → Maybe Bool
+decided (Some b) = some b
+decided None = nothing
+
+abbrev pub DecidesBy : ℕ → Bool → Option Bool → Type 0
+DecidesBy k p r = (j : Join) → kind_of k ≡ some (join j) → rules.decides j p ≡ decided r
 
 abbrev pub JoinedBy : ℕ → Bool → Bool → Bool → Type 0
 JoinedBy k p q r = (j : Join) → kind_of k ≡ some (join j) → r ≡ rules.joined j p q
@@ -50,7 +52,7 @@ quant_of true = for_all
 quant_of false = for_some
 
 -- The range of a binder: a good value, a set or not.
-abbrev pub RangeAt : List ℕ → ℕ → Range → Type 0
+abbrev pub RangeAt : List ℕ → ℕ → Option ℕ → Type 0
 RangeAt s at r = (gs : List ℕ) (top : ℕ) (v : Value) → Sizes gs → GoodAt gs s top at v → RangeAs v r
 
 -- A node that may be read, in an environment of 32 entries.
@@ -89,8 +91,8 @@ pub record StandingReady (bs env : List ℕ) (k n : ℕ) : Type 0 where
   pub is : kind_of k ≡ some (leaf kind)
   pub unbuilt : built_leaf kind ≡ false
 
-abbrev pub PlaceAt : List ℕ → List ℕ → ℕ → ℕ → Type 0
-PlaceAt bs env n at = at ≢ 0 → PlacedLeaf bs env n at
+abbrev pub PlaceAt : List ℕ → List ℕ → ℕ → Option ℕ → Type 0
+PlaceAt bs env n r = IfSome r (λ at. PlacedLeaf bs env n at)
 
 -- The node is an identifier whose value is known to be a function.
 pub record FunctionLeaf (bs env : List ℕ) (n : ℕ) : Type 0 where
@@ -107,14 +109,3 @@ pub record LeafFormed (bs s : List ℕ) (top k n left : ℕ) (s' : List ℕ) (r 
   pub end : ℕ
   pub is : r ≡ Placed top end left
   pub done : LeafDone k (field_a bs n) (get_or (table_of bs).sizes (field_a bs n) 0) s top s' end
-
--- A member from `at` to `end`, and room for it from `to` on, behind it.
-pub record ChooseReady (s : List ℕ) (at end to : ℕ) : Type 0 where
-  pub forward : at ≤ end
-  pub behind : end ≤ to
-  pub room : to + (end - at) ≤ length s
-
-pub record Chooses (s : List ℕ) (at end : ℕ) (yes : Bool) (to : ℕ) (s' : List ℕ) (r : ℕ) : Type 0 where
-  pub frame : Same to s s'
-  pub kept : yes ≡ true → Copied s at (end - at) to s'
-  pub ends : r ≡ to + cond yes (end - at) 0

@@ -1,19 +1,21 @@
-// A visit of a node of a readable table: what the evaluators answer, and what they do at a node without calling each other.
+// A visit of a node of a readable table: what the evaluators answer, and what they do at a node without calling each other. Parameters stay
+// apart, as in the evaluators.
 #![tactic(auto)]
 
-ghost use Rattle.std.specs.Prelude.{true, List, ◌≡◌, ℕ, ◌<◌, ◌≢◌};
+ghost use Rattle.std.specs.Prelude.{true, List, ◌≡◌, ℕ, ◌<◌, IfSome};
 ghost use Rattle.rules.specs.Tables.{node_count};
 ghost use Rattle.rules.specs.Readable.{Readable};
 ghost use Rattle.visits.specs.declared.Held.TheVariants.{Refused};
 ghost use Rattle.visits.specs.declared.Formed.TheVariants.{Stopped};
 ghost use Rattle.visits.specs.Answers.{RefusalOf, StopOf, turned_by, SettleReady};
-ghost use Rattle.visits.specs.Nodes.{IsPred, DecidesBy, JoinedBy, SomeGood, RangeAt, StandingReady, PlacedLeaf, PlaceReady, PlaceAt, FunctionLeaf, LeafNode, LeafFormed, ChooseReady, Chooses};
+ghost use Rattle.visits.specs.Nodes.{IsPred, DecidesBy, JoinedBy, SomeGood, RangeAt, StandingReady, PlacedLeaf, PlaceReady, PlaceAt, FunctionLeaf, LeafNode, LeafFormed};
 ghost use Rattle.visits.specs.Cycle.{Visited, Bares, Settles, StandingTwo};
 
 use operations::Outcome;
 use reading::Refusal;
 
-// The truth of a condition, or a refusal; and the visits that the budget still has.
+// The truth of a condition, or a refusal; and the visits that the budget still has. Held and Formed are enums of their own (project rule: an operand's
+// answer is taken apart by let .. else): so each has its function that refuses, and one that passes on the refusal of the other.
 #[derive(Drop)]
 pub enum Held {
     Truth { yes: bool, left: u32 },
@@ -35,15 +37,9 @@ pub struct Places {
     pub known: bool,
 }
 
-// An entry of the environment is the place of a value, and FUNCTION more where that is known to be a function. Places are below it.
+// An entry of the environment is the place of a value, and FUNCTION more where that is known to be a function. Places are below it. One word for an
+// identifier (no heap, fixed memory): the environment of a binder's body is copied.
 pub const FUNCTION: u32 = 65536;
-
-// The number of members of a binder's range, or that it is no set.
-#[derive(Drop)]
-pub enum Range {
-    Set(u64),
-    Unlike,
-}
 
 pub fn refused(number: usize, place: usize, left: u32) -> Held
     ensures { result ≡ Refused (record { number = number; place = place }) left }
@@ -109,14 +105,8 @@ pub fn strip(table: &[u8], node: usize, left: u32) -> Bare
     let mut n = node;
     let mut l = left;
     let mut turned = false;
-    while l > 0 {
-        if table::node_kind(table, n) != 4 {
-            return Bare {
-                node: n,
-                left: l,
-                turned,
-            };
-        }
+    // No range: the visits that are left belong to the answer.
+    while l > 0 && table::node_kind(table, n) == 4 {
         n = table::node_field(table, n, 0);
         l -= 1;
         turned = !turned;
@@ -141,14 +131,17 @@ pub fn turn(held: Held, turned: bool) -> Held
     }
 }
 
-// Whether the first operand of a join decides: false for 1 and 3, true for 2.
-pub fn decides(kind: usize, p: bool) -> bool
+// Kinds stay numbers (project rule: decisions by match on their codes and ranges).
+
+// The truth of a join that its first operand decides alone, if it does: false for 1, true for 2 and 3.
+pub fn decides(kind: usize, p: bool) -> Option<bool>
     ensures { DecidesBy kind p result }
 {
     match kind {
-        1 | 3 => !p,
-        2 => p,
-        _ => false,
+        1 => (!p).then_some(false),
+        2 => p.then_some(true),
+        3 => (!p).then_some(true),
+        _ => None,
     }
 }
 
@@ -165,14 +158,14 @@ pub fn joined(kind: usize, p: bool, q: bool) -> bool
 }
 
 // How many members the value at `at` has, if it is a set.
-pub fn range_of(s: &[u64], at: usize) -> Range
+pub fn range_of(s: &[u64], at: usize) -> Option<u64>
     requires { SomeGood s.now at }
     ensures { RangeAt s.now at result }
 {
     if !fitting::is_set(s, at) {
-        return Range::Unlike;
+        return None;
     }
-    Range::Set(arena::low(s[at]))
+    Some(arena::low(s[at]))
 }
 
 // Where the value of an identifier (20) stands, or that of a constant of one cell, which has the cell of its node.
@@ -184,25 +177,19 @@ pub fn standing(table: &[u8], env: &[u32; 32], kind: usize, node: usize) -> usiz
         return node;
     }
     let x = table::node_field(table, node, 0);
-    wide(env[x] % FUNCTION)
+    (env[x] % FUNCTION) as usize
 }
 
-// The same for the operand at a node, or 0: another kind, or the constant at node 0.
-pub fn leaf_place(table: &[u8], env: &[u32; 32], node: usize) -> usize
+// The same for the operand at a node, if it is of these kinds.
+pub fn leaf_place(table: &[u8], env: &[u32; 32], node: usize) -> Option<usize>
     requires { PlaceReady table.now env.now node }
     ensures { PlaceAt table.now env.now node result }
 {
     let kind = table::node_kind(table, node);
     match kind {
-        20 | 22..=24 => standing(table, env, kind, node),
-        _ => 0,
+        20 | 22..=24 => Some(standing(table, env, kind, node)),
+        _ => None,
     }
-}
-
-pub fn wide(x: u32) -> usize
-    ensures { result ≡ x }
-{
-    x as usize
 }
 
 // 21 and 42
@@ -223,10 +210,11 @@ pub fn eval_leaf(
     Formed::Value { at: top, end, left }
 }
 
-// What a node gives: a value that has been built above is copied down to top, one within an operand stays.
+// What a node gives, or the number of its refusal, which may be any: a value that has been built above is copied down to top, one within an
+// operand stays.
 pub fn settle(
     s: &mut [u64],
-    r: Outcome,
+    r: Result<Outcome, usize>,
     mid: usize,
     next: usize,
     top: usize,
@@ -236,8 +224,11 @@ pub fn settle(
     requires { SettleReady s.old r mid next top }
     ensures { Settles s.old r mid next top node left s.new result }
 {
-    match r {
-        Outcome::Lacks(k) => stopped(k, node, left),
+    let outcome = match r {
+        Ok(outcome) => outcome,
+        Err(number) => return stopped(number, node, left),
+    };
+    match outcome {
         Outcome::Within(at) => Formed::Value { at, end: mid, left },
         Outcome::Cell(cell) => {
             let end = products::put_cell(s, top, cell);
@@ -264,54 +255,32 @@ pub fn is_marked(table: &[u8], env: &[u32; 32], node: usize) -> bool
     requires { PlaceReady table.now env.now node }
     ensures { result ≡ true → FunctionLeaf table.now env.now node }
 {
-    if table::node_kind(table, node) != 20 {
-        return false;
-    }
-    let x = table::node_field(table, node, 0);
-    env[x] >= FUNCTION
+    table::node_kind(table, node) == 20 && env[table::node_field(table, node, 0)] >= FUNCTION
 }
 
-// Where the operands of an operation that builds nothing stand, if they stand already and there are visits for all three nodes; otherwise
-// `first` is 0. And whether the first is known to be a function.
-pub fn standing_two(table: &[u8], env: &[u32; 32], kind: usize, node: usize, left: u32) -> Places
+// Where the operands of an operation that builds nothing stand, and whether the first is known to be a function; if they stand already and
+// there are visits for all three nodes.
+pub fn standing_two(
+    table: &[u8],
+    env: &[u32; 32],
+    kind: usize,
+    node: usize,
+    left: u32,
+) -> Option<Places>
     requires { (s : List ℕ) × (top : ℕ) × Visited table.now env.now s top kind node left }
-    ensures { result.first ≢ 0 → StandingTwo table.now env.now kind node left result }
+    ensures { IfSome result (λ p. StandingTwo table.now env.now kind node left p) }
 {
-    let none = Places {
-        first: 0,
-        second: 0,
-        known: false,
-    };
-    if left < 3 {
-        return none;
-    }
-    if !operations::is_light(kind) {
-        return none;
+    if left < 3 || !operations::is_light(kind) {
+        return None;
     }
     let b = table::node_field(table, node, 1);
-    let second = leaf_place(table, env, b);
-    if second == 0 {
-        return none;
-    }
+    let second = leaf_place(table, env, b)?;
     let a = table::node_field(table, node, 0);
-    let first = leaf_place(table, env, a);
+    let first = leaf_place(table, env, a)?;
     let known = is_marked(table, env, a);
-    Places {
+    Some(Places {
         first,
         second,
         known,
-    }
-}
-
-// Copies a member to `to` if it is chosen, and answers where what has been chosen ends.
-pub fn choose(s: &mut [u64], at: usize, end: usize, yes: bool, to: usize) -> usize
-    requires { ChooseReady s.old at end to }
-    ensures { Chooses s.old at end yes to s.new result }
-{
-    if !yes {
-        return to;
-    }
-    let n = end - at;
-    arena::copy(s, at, n, to);
-    to + n
+    })
 }

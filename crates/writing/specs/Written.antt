@@ -1,5 +1,5 @@
 -- A value that stands in the arena, written as the cells of the values buffer to the front of a lent buffer.
-use Rattle.std.specs.Prelude.{ℕ, ◌+◌, ◌*◌, ◌/◌, ◌%◌, ◌≤◌, cond, List, [], ◌∷◌, ◌++◌, ◌≡◌, leb, length, take, drop}
+use Rattle.std.specs.Prelude.{ℕ, ◌+◌, ◌*◌, ◌/◌, ◌%◌, ◌≤◌, cond, List, [], ◌∷◌, ◌++◌, ◌≡◌, leb, length, drop}
 use Rattle.rules.specs.Values.{Value, weight}
 use Rattle.rules.specs.Cells.{bytes4, cells}
 use Rattle.arena.specs.Code.{cell_size, ValueAt, CellsFit}
@@ -19,9 +19,9 @@ unfolding arena_cell
 bytes_of [] = []
 bytes_of (x ∷ xs) = cell_bytes x ++ bytes_of xs
 
--- What stands in `out` once the n cells from `at` on are written.
-abbrev pub cells_put : List ℕ → ℕ → ℕ → List ℕ → List ℕ
-cells_put s at n out = bytes_of (take n (drop at s)) ++ drop (8 * n) out
+-- What stands in `out` once these cells are written to its front.
+abbrev pub cells_put : List ℕ → List ℕ → List ℕ
+cells_put xs out = bytes_of xs ++ drop (8 * length xs) out
 
 -- Some value that fits stands from `at` to `end`; it is light, so that its bytes can be counted.
 pub record WriteReady (s : List ℕ) (at end : ℕ) : Type 0 where

@@ -21,25 +21,24 @@ returns-then-left-n c =
           walk_heavy i.2 c.loop-left-test.true sizes v rest e g (omega (arith, c.if-left-n.true, i.0)),
     )
 
-pub returns-in_default : goal.returns-in_default
-returns-in_default c =
+pub returns-in_err-step : goal.returns-in_err-step
+returns-in_err-step c =
     let sizes : Sizes (table_of c.args.table.now).sizes = readable_sizes c.requires.readable in
     let i = c.loop-left.invariant in (
       i.2.frame,
-      λ v rest e g.
-          walk_none i.2 c.loop-left-test.true sizes v rest e g c.in_default.ensures,
+      rw c.from_residual.ensures (λ v rest e g. walk_none i.2 c.loop-left-test.true sizes v rest e g c.in_err-step.ensures),
     )
 
 pub bounds-s-top : goal.bounds-s-top
 bounds-s-top c =
-    let cell = c.in-Cell.ensures in
+    let cell = c.in_ok-step.ensures in
     let few : c.loop-left.n < 256 = omega (arith, c.if-left-n.false, c.loop-left-test.true) in
     let room : c.args.top + c.loop-left.n < length c.loop-left.s = walk_room c.loop-left.invariant.2 cell few c.requires.room in
     room
 
 pub loop-left-preserved : goal.loop-left-preserved
 loop-left-preserved c =
-    let cell = c.in-Cell.ensures in
+    let cell = c.in_ok-step.ensures in
     let few : c.loop-left.n < 256 = omega (arith, c.if-left-n.false, c.loop-left-test.true) in
     let room : c.args.top + c.loop-left.n < length c.loop-left.s = walk_room c.loop-left.invariant.2 cell few c.requires.room in (
       omega (arith, few),

@@ -37,7 +37,7 @@ loop-x-preserved c =
     (omega (arith, binds_length c.args.table.now), omega (arith, c.requires.readable.header.identifiers)) in
     let more : (c.loop-x.x < length (table_of c.args.table.now).binds) × (c.loop-x.x < 32) =
     (omega (arith, c.loop-x-test.true, all.0), omega (arith, c.loop-x-test.true, all.1)) in
-    let entered = c.in-Of.ensures.1 in
+    let entered = c.in-Some.ensures.1 in
     let l = more in
     loading_step c.loop-x.invariant c.read_entry.new.s _ _ _ l.0 l.1 c.read_entry.ensures.0 entered
 
@@ -48,7 +48,8 @@ returns-then-c-values c =
     let all : (c.identifiers-count.result ≡ length (table_of c.args.table.now).binds) × (c.identifiers-count.result ≤ 32) =
     (omega (arith, binds_length c.args.table.now), omega (arith, c.requires.readable.header.identifiers)) in
     let no_more : length (table_of c.args.table.now).binds ≤ c.loop-x.x = omega (arith, c.loop-x-test.false, all.0) in
-    (framed, loading_surplus c.loop-x.invariant no_more c.if-c-values.true)
+    let here : c.loop-x.x ≡ c.identifiers-count.result = omega arith in
+    (framed, rw (← here) (loading_surplus c.loop-x.invariant no_more c.if-c-values.true))
 
 pub returns : goal.returns
 returns c =

@@ -4,7 +4,7 @@ use Rattle.conforms.proofs.NameLaws.{unread_not}
 use Rattle.conforms.proofs.conforms.Goals as goal
 
 pub conforms_readable-requires : goal.conforms_readable-requires
-conforms_readable-requires c = read_readable _ _ c.read-reading.ensures c.in-Passed.is
+conforms_readable-requires c = read_readable _ _ c.read.ensures c.in-Ok.is
 
-pub returns-in-Refused : goal.returns-in-Refused
-returns-in-Refused c = unread_not _ _ _ _ c.read-reading.ensures c.in-Refused.is
+pub returns-in-Err : goal.returns-in-Err
+returns-in-Err c = unread_not _ _ _ _ c.read.ensures c.in-Err.is

@@ -31,25 +31,25 @@ returns-then-sheet-count c =
     misfit_not c.requires.readable _ (λ e. c.if-sheet-count.true (omega (arith, e, rows c.args.table.now c.identifiers-count.ensures c.nodes.ensures)))
 
 pub loop-x-init : goal.loop-x-init
-loop-x-init c = (omega arith, λ buffer top end b. refl)
+loop-x-init c = λ buffer top end b. refl
 
 pub name_has-requires : goal.name_has-requires
 name_has-requires c =
-    let n = named _ c.identifiers-count.ensures c.nodes.ensures c.if-sheet-count.false c.requires.readable c.loop-x-test.true c.wide-at.ensures in
+    let n = named _ c.identifiers-count.ensures c.nodes.ensures c.if-sheet-count.false c.requires.readable c.loop-x-test.true refl in
     name_ready n c.requires
 
 pub returns-then-not-name_has : goal.returns-then-not-name_has
 returns-then-not-name_has c =
-    let n = named _ c.identifiers-count.ensures c.nodes.ensures c.if-sheet-count.false c.requires.readable c.loop-x-test.true c.wide-at.ensures in
+    let n = named _ c.identifiers-count.ensures c.nodes.ensures c.if-sheet-count.false c.requires.readable c.loop-x-test.true refl in
     have_no n c.name_has.ensures c.if-not-name_has.true
 
 pub loop-x-preserved : goal.loop-x-preserved
 loop-x-preserved c =
-    let n = named _ c.identifiers-count.ensures c.nodes.ensures c.if-sheet-count.false c.requires.readable c.loop-x-test.true c.wide-at.ensures in
-    (omega (arith, c.loop-x-test.true), have_more n c.name_has.ensures c.if-not-name_has.false c.loop-x.invariant.1)
+    let n = named _ c.identifiers-count.ensures c.nodes.ensures c.if-sheet-count.false c.requires.readable c.loop-x-test.true refl in
+    have_more n c.name_has.ensures c.if-not-name_has.false c.loop-x.invariant
 
 pub returns : goal.returns
 returns c =
     let e : identifier_count c.args.table.now ≡ c.loop-x.x =
-    omega (arith, c.loop-x-test.false, c.loop-x.invariant.0, c.identifiers-count.ensures) in
-    have_all c.requires.readable _ (fits _ c.identifiers-count.ensures c.nodes.ensures c.if-sheet-count.false) (rw e c.loop-x.invariant.1)
+    omega (arith, c.loop-x-test.false, c.identifiers-count.ensures) in
+    have_all c.requires.readable _ (fits _ c.identifiers-count.ensures c.nodes.ensures c.if-sheet-count.false) (rw e c.loop-x.invariant)

@@ -6,10 +6,10 @@ use Rattle.evaluate.proofs.EntryLaws.{unread_reported}
 use Rattle.evaluate.proofs.evaluate.Goals as goal
 
 pub evaluate_sized-run-requires : goal.evaluate_sized-run-requires
-evaluate_sized-run-requires c = measured_readable _ (sym (ap height_of c.in-Root.is) ∙ c.read_height-height.ensures)
+evaluate_sized-run-requires c = measured_readable _ (sym (ap height_of c.in-Ok.is) ∙ c.read_height.ensures)
 
-pub returns-in-Refused : goal.returns-in-Refused
-returns-in-Refused c =
-    let r = c.read_height-height in
-    let x = unread_reported c.args.table.now c.args.values.now c.args.budget r.result r.ensures c.in-Refused.is c.refused.ensures in
+pub returns-in-Err : goal.returns-in-Err
+returns-in-Err c =
+    let r = c.read_height in
+    let x = unread_reported c.args.table.now c.args.values.now c.args.budget r.result r.ensures c.in-Err.is c.refused.ensures in
     (x.ending, x.spent)

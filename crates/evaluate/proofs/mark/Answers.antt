@@ -8,11 +8,11 @@ use Rattle.evaluate.proofs.mark.Goals as goal
 pub known_function-requires : goal.known_function-requires
 known_function-requires c =
     entry_good c.requires.1 c.loop-x.invariant _
-    (omega (arith, c.loop-x-test.true, c.identifiers-count.ensures, c.requires.1.readable.header.identifiers))
+    (omega (arith, c.identifiers-count.ensures, c.requires.1.readable.header.identifiers))
 
 pub loop-x-preserved : goal.loop-x-preserved
 loop-x-preserved c =
-    let few : c.loop-x.x < 32 = omega (arith, c.loop-x-test.true, c.identifiers-count.ensures, c.requires.1.readable.header.identifiers) in
+    let few : c.loop-x.x < 32 = omega (arith, c.identifiers-count.ensures, c.requires.1.readable.header.identifiers) in
     elim c.if-known_function.branch [
       | then-known_function w ↦ rw w.env-is
           (rebinds_more _ _ c.requires.1.readable c.loop-x.invariant few (omega arith) (λ _. c.known_function.ensures w.if-known_function.true))

@@ -1,5 +1,5 @@
 -- The cycle of the evaluators: the measures, five for each node and what is left to do at the node; and what the loops over members keep.
-use Rattle.visits.proofs.Terms.{◌+◌, ◌*◌}
+use Rattle.visits.proofs.Terms.{◌+◌, ◌-◌, ◌*◌}
 use Rattle.visits.proofs.ChosenLaws.{Choosing}
 use Rattle.visits.proofs.QuantLaws.{Turning}
 use Rattle.evaluators.proofs.+evaluators.Given as goal
@@ -46,14 +46,10 @@ decreases-eval_value l = 5 * l.node + 2
 abbrev pub decreases-operand : goal.decreases-operand
 decreases-operand l = 5 * l.node + 4
 
-abbrev pub invariant-each_chosen-loop-more : goal.invariant-each_chosen-loop-more
-invariant-each_chosen-loop-more l = Choosing l.table l.env l.initial.s l.top l.node l.from l.count l.left l.x l.s l.inner l.at l.more l.n l.to l.chosen
+abbrev pub invariant-each_chosen-loop-turn : goal.invariant-each_chosen-loop-turn
+invariant-each_chosen-loop-turn l =
+    Choosing l.table l.env l.initial.s l.top l.node l.from l.count l.left l.x l.s l.inner l.at (l.count - l._turn) l.n l.to l.chosen
 
-abbrev pub decreases-each_chosen-loop-more : goal.decreases-each_chosen-loop-more
-decreases-each_chosen-loop-more l = l.more
-
-abbrev pub invariant-each_member-loop-more : goal.invariant-each_member-loop-more
-invariant-each_member-loop-more l = Turning l.table l.env l.initial.s l.top l.all l.node l.from l.count l.left l.x l.s l.inner l.at l.more l.n
-
-abbrev pub decreases-each_member-loop-more : goal.decreases-each_member-loop-more
-decreases-each_member-loop-more l = l.more
+abbrev pub invariant-each_member-loop-turn : goal.invariant-each_member-loop-turn
+invariant-each_member-loop-turn l =
+    Turning l.table l.env l.initial.s l.top l.all l.node l.from l.count l.left l.x l.s l.inner l.at (l.count - l._turn) l.n

@@ -8,7 +8,7 @@ pub is_relation-requires : goal.is_relation-requires
 is_relation-requires c = some_typed c.requires
 
 pub flat_mapping-requires : goal.flat_mapping-requires
-flat_mapping-requires c = some_relation c.is_relation.ensures (ap not c.if-not-is_relation.false) c.requires
+flat_mapping-requires c = some_relation c.is_relation.ensures (ap not c.if-is_relation.true) c.requires
 
-pub returns : goal.returns
-returns c = function_seen c.is_relation.ensures (ap not c.if-not-is_relation.false) c.flat_mapping.ensures
+pub returns-then-is_relation : goal.returns-then-is_relation
+returns-then-is_relation c = function_seen c.is_relation.ensures (ap not c.if-is_relation.true) c.flat_mapping.ensures

@@ -1,6 +1,7 @@
--- `two`: each code has its kind.
-use Rattle.operations.proofs.Common.{refl, whole, pairing, union, inter, diff, product, apply, plus, minus, union_merged, inter_merged, diff_merged, ready_values, pair_done, two_of, two_last}
+-- `two`: each code has its kind; those of `light` have what it answers.
+use Rattle.operations.proofs.Common.{refl, arith, pairing, union, inter, diff, product, union_merged, inter_merged, diff_merged, ready_values, pair_done, two_of, two_last}
 use Rattle.operations.proofs.two.Goals as goal
+use Rattle.operations.proofs.two.Goals.{in_default-via-then-kind-lt39, in_default-via-else-kind-lt39+else-kind-lt41}
 
 pub pair-requires : goal.pair-requires
 pair-requires c = ready_values c.requires
@@ -21,16 +22,15 @@ pub returns-in-32 : goal.returns-in-32
 returns-in-32 c = two_of product c.in-32.is c.product.ensures
 
 pub returns-in-37 : goal.returns-in-37
-returns-in-37 c = two_of apply c.in-37.is (c.apply.ensures _)
-
-pub returns-in-39 : goal.returns-in-39
-returns-in-39 c = two_of (plus whole) c.in-39.is (c.sum.ensures _)
-
-pub returns-in-40 : goal.returns-in-40
-returns-in-40 c = two_of (minus whole) c.in-40.is (c.sum-in-40.ensures _)
+returns-in-37 c = c.light.ensures c.args.top
 
 pub returns-in_default : goal.returns-in_default
 returns-in_default c =
-    let n = c.in_default.in_default-own.rest in
-    two_last n.0.0.0.0.0.0.0.1 n.0.0.0.0.0.0.1 n.0.0.0.0.0.1 n.0.0.0.0.1 n.0.0.0.1 n.0.0.1 n.0.1 n.1
-    c.interval.ensures
+    elim c.in_default.branch [
+      | in_default-via-then-kind-lt39 w ↦
+          two_last (omega arith) (omega arith) (omega arith) (omega arith) (omega arith) (omega arith) (omega arith) (omega arith)
+          c.interval.ensures
+      | in_default-via-else-kind-lt39+else-kind-lt41 w ↦
+          two_last (omega arith) (omega arith) (omega arith) (omega arith) (omega arith) (omega arith) (omega arith) (omega arith)
+          c.interval.ensures
+    ]

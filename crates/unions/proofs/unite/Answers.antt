@@ -16,13 +16,13 @@ returns-then-not-alike_sets c = unite_unfit c.alike_sets.ensures (ap not c.if-no
 pub merge-pass-requires : goal.merge-pass-requires
 merge-pass-requires c = ready_sets c.requires t̂ c.alike_sets.ensures (ap not c.if-not-alike_sets.false)
 
-pub returns-then-pass-eq0 : goal.returns-then-pass-eq0
-returns-then-pass-eq0 c = unite_heavy c.alike_sets.ensures (ap not c.if-not-alike_sets.false) c.merge-pass.ensures c.if-pass-eq0.true
+pub returns-in-None : goal.returns-in-None
+returns-in-None c = unite_heavy c.alike_sets.ensures (ap not c.if-not-alike_sets.false) c.merge-pass.ensures c.in-None.is
 
 pub write_value-bytes-requires : goal.write_value-bytes-requires
 write_value-bytes-requires c =
-    unite_ready c.alike_sets.ensures (ap not c.if-not-alike_sets.false) c.merge-pass.ensures c.if-pass-eq0.false c.requires
+    unite_ready c.alike_sets.ensures (ap not c.if-not-alike_sets.false) c.merge-pass.ensures c.in-Some.is c.requires
 
-pub returns : goal.returns
-returns c =
-    unite_made c.alike_sets.ensures (ap not c.if-not-alike_sets.false) c.merge-pass.ensures c.if-pass-eq0.false c.write_value-bytes.ensures
+pub returns-in-Some : goal.returns-in-Some
+returns-in-Some c =
+    unite_made c.alike_sets.ensures (ap not c.if-not-alike_sets.false) c.merge-pass.ensures c.in-Some.is c.write_value-bytes.ensures

@@ -1,4 +1,4 @@
--- `leaf_place`: nothing is said of 0; otherwise it is where the leaf stands.
+-- `leaf_place`: by the codes of the leaves that stand already.
 use Rattle.visits.proofs.Terms.{ℕ, ◌≡◌, ◌≤◌, ◌<◌, ◌≢◌, ◌⊎◌, arith, inl, inr}
 use Rattle.visits.proofs.DispatchLaws.{standing_code, unbuilt_ready}
 use Rattle.visits.proofs.leaf_place.Goals.{in-20-1, in_default+else-kind-lt22+then-kind-lt25}

@@ -1,5 +1,5 @@
 -- `standing`: the offset that the environment has for the identifier, or the node's own cell.
-use Rattle.visits.proofs.Terms.{arith}
+use Rattle.visits.proofs.Terms.{refl, arith}
 use Rattle.visits.proofs.SafeLaws.{entry_below, entry_scaled}
 use Rattle.visits.proofs.DispatchLaws.{standing_name, placed_name, placed_constant}
 use Rattle.visits.proofs.standing.Goals as goal
@@ -14,4 +14,4 @@ pub bounds-env-x : goal.bounds-env-x
 bounds-env-x c = entry_below c.node_field-x.ensures (standing_name c.requires (omega (arith, c.if-kind-ne20.false)))
 
 pub returns : goal.returns
-returns c = placed_name c.requires (omega (arith, c.if-kind-ne20.false)) c.node_field-x.ensures c.wide.ensures
+returns c = placed_name c.requires (omega (arith, c.if-kind-ne20.false)) c.node_field-x.ensures refl

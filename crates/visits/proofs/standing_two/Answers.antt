@@ -1,4 +1,4 @@
--- `standing_two`: nothing is said of 0; otherwise both operands stand already.
+-- `standing_two`: the operands of kinds that build nothing are nodes of the table.
 use Rattle.visits.proofs.Terms.{IsLight, ◌≡◌, List, ℕ, PlacedLeaf, FunctionLeaf}
 use Rattle.visits.proofs.NodeLaws.{ready_first}
 use Rattle.visits.proofs.DispatchLaws.{place_ready, light_two}
@@ -12,14 +12,14 @@ placed_as e p = rw e at p
 marked_as : {bs env : List ℕ} {n m : ℕ} → n ≡ m → FunctionLeaf bs env n → FunctionLeaf bs env m
 marked_as e p = rw e at p
 
-pub leaf_place-second-requires : goal.leaf_place-second-requires
-leaf_place-second-requires c =
+pub leaf_place-requires : goal.leaf_place-requires
+leaf_place-requires c =
     let light : IsLight c.args.kind = c.is_light.ensures c.if-not-is_light.false in
     let fields = two_fields (c.requires.2, light_two light) in
     rw c.node_field-b.ensures (place_ready (ready_first fields.ready fields.right))
 
-pub leaf_place-first-requires : goal.leaf_place-first-requires
-leaf_place-first-requires c =
+pub leaf_place-requires-2 : goal.leaf_place-requires-2
+leaf_place-requires-2 c =
     let light : IsLight c.args.kind = c.is_light.ensures c.if-not-is_light.false in
     let fields = two_fields (c.requires.2, light_two light) in
     rw c.node_field-a.ensures (place_ready (ready_first fields.ready fields.left))

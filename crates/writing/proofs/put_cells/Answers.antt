@@ -1,25 +1,18 @@
 -- `put_cells`: after i turns the first i cells are written (`WrittenLaws`).
-use Prim.Native.Nat.{ℕ}
-use mathlib.Core.Path.{◌≡◌, refl, subst, ◌∙◌}
+use mathlib.Core.Path.{◌∙◌, ap}
+use Prim.Native.Nat.{◌%◌, ◌/◌}
+use mathlib.Core.List.{◌++◌}
 use native.Mathlib.Omega.{arith}
-use Rattle.writing.specs.Written.{cells_put}
-use Rattle.writing.proofs.WrittenLaws.{put_start, put_turn}
+use Rattle.rules.specs.Cells.{bytes4}
+use Rattle.writing.proofs.WrittenLaws.{put_start, put_turn, cell_word}
 use Rattle.writing.proofs.put_cells.Goals as goal
 
 pub loop-i-init : goal.loop-i-init
-loop-i-init c = let a = c.args in (omega arith, put_start a.s.now a.out.now a.at, refl)
+loop-i-init c = put_start c.args.cells.now c.args.out.now
 
 pub loop-i-preserved : goal.loop-i-preserved
 loop-i-preserved c =
-    let i = c.loop-i.invariant in (
-      omega (arith, c.loop-i-test.true),
-      put_turn c.args.s.now c.args.out.now c.args.at c.loop-i.i
-          (omega (arith, c.requires.0, c.loop-i-test.true)) (omega (arith, c.requires.1, c.loop-i-test.true)) _ _ i.1 c.put_cell.ensures,
-      c.put_cell.auto.out ∙ i.2,
-    )
-
-pub returns : goal.returns
-returns c =
-    let a = c.args in
-    let e : c.loop-i.i ≡ a.n = omega (arith, c.loop-i.invariant.0, c.loop-i-test.false) in
-    subst (λ (i : ℕ). c.loop-i.out ≡ cells_put a.s.now a.at i a.out.now) e c.loop-i.invariant.1
+    let i = c.loop-i.i in
+    let word = c.to_le_bytes-bytes.ensures ∙ cell_word c.code_cell.result ∙
+    ap (λ x. bytes4 (x % 4294967296) ++ bytes4 (x / 4294967296)) c.code_cell.ensures in
+    put_turn c.args.cells.now c.args.out.now i (omega arith) (omega arith) c.loop-i.out _ c.loop-i.invariant (c.copy_from_slice.ensures.after ∙ word)

@@ -14,10 +14,10 @@ pub range-requires : goal.range-requires
 range-requires c = ready_pairs c.requires c.is_relation.ensures (ap not c.if-not-is_relation.false)
 
 pub returns-then-right : goal.returns-then-right
-returns-then-right c = rw c.if-right.true (range_done c.requires c.is_relation.ensures (ap not c.if-not-is_relation.false) c.range.ensures c.built.ensures)
+returns-then-right c = rw c.if-right.true (range_done c.requires c.is_relation.ensures (ap not c.if-not-is_relation.false) c.range.ensures)
 
 pub domain-requires : goal.domain-requires
 domain-requires c = ready_pairs c.requires c.is_relation.ensures (ap not c.if-not-is_relation.false)
 
 pub returns : goal.returns
-returns c = rw c.if-right.false (domain_done c.requires c.is_relation.ensures (ap not c.if-not-is_relation.false) c.domain.ensures c.built-2.ensures)
+returns c = rw c.if-right.false (domain_done c.requires c.is_relation.ensures (ap not c.if-not-is_relation.false) c.domain.ensures)
