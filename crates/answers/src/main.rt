@@ -8,18 +8,50 @@
 // case, `unknown` for another first word. A failed read or write ends it by its error.
 #![tactic(auto)]
 
-ghost use Rattle.std.specs.Prelude.{◌≤◌, ◌<◌, length};
-
-use reports::{Ending, Truth};
+use batch::Stop;
 use std::io;
 use std::io::{Read, Write};
-use unions::MergeAnswer;
+use unions::MergeError;
 
-const CHECK: usize = 1;
+// Room for the table, the values and the sheet of a case. No Vec: room that is there from the start cannot run out.
+#[derive(Drop)]
+struct Rooms {
+    table: [u8; batch::TABLE],
+    values: [u8; batch::VALUES],
+    sheet: [u8; batch::SHEET],
+}
 
-const EVALUATION: usize = 2;
+impl Rooms {
+    fn new() -> Rooms {
+        Rooms {
+            table: [0; batch::TABLE],
+            values: [0; batch::VALUES],
+            sheet: [0; batch::SHEET],
+        }
+    }
+}
 
-const MERGE: usize = 9;
+// What a case asks for.
+#[derive(Clone, Copy, Debug, PartialEq, Eq)]
+enum Kind {
+    Check,
+    Evaluation,
+    Merge,
+}
+
+// By the first word.
+impl TryFrom<usize> for Kind {
+    type Error = Stop;
+
+    fn try_from(word: usize) -> Result<Kind, Stop> {
+        match word {
+            1 => Ok(Kind::Check),
+            2 => Ok(Kind::Evaluation),
+            9 => Ok(Kind::Merge),
+            _ => Err(Stop::Unknown),
+        }
+    }
+}
 
 fn evaluate_case<W: Write>(
     out: &mut W,
@@ -27,155 +59,116 @@ fn evaluate_case<W: Write>(
     values: &[u8],
     budget: u32,
 ) -> io::Result<()> {
-    let e = evaluate::evaluate(table, values, budget);
-    let ending = e.ending;
-    match ending {
-        Ending::Refused(r) => batch::print_refusal(out, r)?,
-        Ending::Decided(t) => match t {
-            Truth::True => batch::say(out, b"true")?,
-            Truth::False => batch::say(out, b"false")?,
-        },
-    }
-    let steps = e.steps;
-    write!(out, " {steps}\n")
-}
-
-// The union stands in the first bytes of `cells`.
-fn print_union<W: Write>(
-    out: &mut W,
-    comparisons: u64,
-    cells: &[u8],
-    bytes: usize,
-) -> io::Result<()> {
-    write!(out, "merged {comparisons} ")?;
-    batch::print_bytes(out, cells, bytes)
+    let evaluation = evaluate::evaluate(table, values, budget);
+    let ending = evaluation.ending;
+    let steps = evaluation.steps;
+    writeln!(out, "{ending} {steps}")
 }
 
 // A union that is not `heavy` has at most 256 cells, of 8 bytes each.
 fn merge_case<W: Write>(out: &mut W, table: &[u8], values: &[u8]) -> io::Result<()> {
     let mut cells = [0u8; 2048];
-    let answer = unions::merge_values(table, values, &mut cells);
-    match answer {
-        MergeAnswer::Refused(r) => batch::print_refusal(out, r)?,
-        MergeAnswer::Unfit => batch::say(out, b"unfit")?,
-        MergeAnswer::Heavy(_) => batch::say(out, b"heavy")?,
-        MergeAnswer::United { comparisons, bytes } => {
-            print_union(out, comparisons, &cells, bytes)?;
+    match unions::merge_values(table, values, &mut cells) {
+        Ok(merged) => {
+            let comparisons = merged.comparisons;
+            write!(out, "merged {comparisons} ")?;
+            batch::print_bytes(out, &cells, merged.bytes)?;
         }
+        Err(MergeError::Refused(refusal)) => write!(out, "{refusal}")?,
+        Err(MergeError::Unfit) => out.write_all(b"unfit")?,
+        Err(MergeError::Heavy(_)) => out.write_all(b"heavy")?,
     }
-    batch::say(out, b"\n")
+    out.write_all(b"\n")
 }
 
-fn values_case<W: Write>(
-    out: &mut W,
-    kind: usize,
-    table: &[u8],
-    values: &[u8],
-    budget: u32,
-) -> io::Result<()> {
-    if kind == MERGE {
-        merge_case(out, table, values)
-    } else {
-        evaluate_case(out, table, values, budget)
-    }
-}
-
-// A case whose table, of t bytes, and values, of v bytes, are next in the input; whether the batch goes on.
-fn answer_values<R: Read, W: Write>(
-    input: &mut R,
-    out: &mut W,
-    kind: usize,
-    table: &mut [u8],
-    t: usize,
-    values: &mut [u8],
-    v: usize,
-    budget: u32,
-) -> io::Result<bool>
-    requires { (t ≤ length table.old) × (v ≤ length values.old) }
-{
-    let got = batch::next_bytes(input, table, t)?;
-    if got < t {
-        return batch::stop(out, b"cut\n");
-    }
-    let more = batch::next_bytes(input, values, v)?;
-    if more < v {
-        return batch::stop(out, b"cut\n");
-    }
-    values_case(out, kind, &table[..got], &values[..more], budget)?;
-    Ok(true)
-}
-
-// Two lengths, and an evaluation's budget behind them.
-fn head_size(kind: usize) -> usize
-    ensures { result ≤ 16 }
-{
-    if kind == MERGE { 8 } else { 12 }
-}
-
-// An evaluation or a merge; whether the batch goes on.
+// The table of t bytes and the values of v bytes are next in the input: their evaluation, or their merge where there is no budget.
 fn next_values<R: Read, W: Write>(
     input: &mut R,
     out: &mut W,
-    kind: usize,
-    table: &mut [u8],
-    values: &mut [u8],
-) -> io::Result<bool>
-    requires { (16384 ≤ length table.old) × (131072 ≤ length values.old) }
-{
-    let mut head = [0u8; 16];
-    if !batch::take(input, &mut head, head_size(kind))? {
-        return batch::stop(out, b"cut\n");
+    rooms: &mut Rooms,
+    t: usize,
+    v: usize,
+    budget: Option<u32>,
+) -> Result<(), Stop> {
+    if t > batch::TABLE || v > batch::VALUES {
+        return Err(Stop::Long);
     }
-    let t = table::word(&head, 0);
-    let v = table::word(&head, 4);
-    let budget = table::word(&head, 8) as u32;
-    if t > 16384 {
-        return batch::stop(out, b"long\n");
+    let table = &mut rooms.table[..];
+    let table = &mut table[..t];
+    batch::take(input, table)?;
+    let values = &mut rooms.values[..];
+    let values = &mut values[..v];
+    batch::take(input, values)?;
+    match budget {
+        Some(budget) => evaluate_case(out, table, values, budget)?,
+        None => merge_case(out, table, values)?,
     }
-    if v > 131072 {
-        return batch::stop(out, b"long\n");
-    }
-    answer_values(input, out, kind, table, t, values, v, budget)
+    Ok(())
 }
 
-// The next case; whether the batch goes on.
+// An evaluation: the lengths of its table and of its values, its budget, the table and the values are next in the input.
+fn next_evaluation<R: Read, W: Write>(
+    input: &mut R,
+    out: &mut W,
+    rooms: &mut Rooms,
+) -> Result<(), Stop> {
+    let mut head = [0u8; 12];
+    batch::take(input, &mut head)?;
+    let budget = table::word(&head, 8) as u32;
+    next_values(
+        input,
+        out,
+        rooms,
+        table::word(&head, 0),
+        table::word(&head, 4),
+        Some(budget),
+    )
+}
+
+// A merge: the same without a budget.
+fn next_merge<R: Read, W: Write>(
+    input: &mut R,
+    out: &mut W,
+    rooms: &mut Rooms,
+) -> Result<(), Stop> {
+    let mut head = [0u8; 8];
+    batch::take(input, &mut head)?;
+    next_values(
+        input,
+        out,
+        rooms,
+        table::word(&head, 0),
+        table::word(&head, 4),
+        None,
+    )
+}
+
+// The next case; whether there is one.
 fn next_case<R: Read, W: Write>(
     input: &mut R,
     out: &mut W,
-    table: &mut [u8],
-    values: &mut [u8],
-    sheet: &mut [u8],
-) -> io::Result<bool>
-    requires { (16384 ≤ length table.old) × (131072 ≤ length values.old) × (1048576 ≤ length sheet.old) }
-{
-    let mut head = [0u8; 16];
+    rooms: &mut Rooms,
+) -> Result<bool, Stop> {
+    let mut head = [0u8; 4];
     let n = batch::next_bytes(input, &mut head, 4)?;
     if n == 0 {
         return Ok(false);
     }
     if n < 4 {
-        return batch::stop(out, b"cut\n");
+        return Err(Stop::Cut);
     }
-    let kind = table::word(&head, 0);
-    match kind {
-        CHECK => batch::next_check(input, out, table, sheet),
-        EVALUATION | MERGE => next_values(input, out, kind, table, values),
-        _ => batch::stop(out, b"unknown\n"),
+    match Kind::try_from(table::word(&head, 0))? {
+        Kind::Check => batch::next_check(input, out, &mut rooms.table[..], &mut rooms.sheet[..])?,
+        Kind::Evaluation => next_evaluation(input, out, rooms)?,
+        Kind::Merge => next_merge(input, out, rooms)?,
     }
+    Ok(true)
 }
 
 // Nothing says that the input ends, so the turns are counted: no input has so many cases.
-fn all_cases<R: Read, W: Write>(
-    input: &mut R,
-    out: &mut W,
-    table: &mut [u8],
-    values: &mut [u8],
-    sheet: &mut [u8],
-) -> io::Result<()>
-    requires { (16384 ≤ length table.old) × (131072 ≤ length values.old) × (1048576 ≤ length sheet.old) }
-{
+fn all_cases<R: Read, W: Write>(input: &mut R, out: &mut W, rooms: &mut Rooms) -> Result<(), Stop> {
     for _ in 0..u64::MAX {
-        if !next_case(input, out, table, values, sheet)? {
+        if !next_case(input, out, rooms)? {
             return Ok(());
         }
     }
@@ -185,8 +178,10 @@ fn all_cases<R: Read, W: Write>(
 fn main(rt: HostRuntime) -> io::Result<()> {
     let mut input = rt.stdin();
     let mut out = rt.stdout();
-    let mut table = batch::table_room();
-    let mut values = batch::values_room();
-    let mut sheet = batch::sheet_room();
-    all_cases(&mut input, &mut out, &mut table, &mut values, &mut sheet)
+    let mut rooms = Rooms::new();
+    match all_cases(&mut input, &mut out, &mut rooms) {
+        Ok(()) => Ok(()),
+        Err(Stop::Failed(error)) => Err(error),
+        Err(stop) => writeln!(out, "{stop}"),
+    }
 }

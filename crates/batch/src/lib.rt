@@ -1,84 +1,92 @@
-// Cases of the batch program: bytes from a reader, lines to a writer, and checks. A failed read or write ends the batch by its error.
+// Cases of the batch program: bytes from a reader, lines to a writer, and checks.
 #![tactic(auto)]
 
-ghost use Rattle.std.specs.Prelude.{◌≤◌, ◌<◌, ◌≡◌, length, drop};
+ghost use Rattle.std.specs.Prelude.{◌≤◌, ◌≡◌, length, drop};
 ghost use Rattle.std.specs.Io.{ReadsAtMost};
+ghost use Rattle.batch.specs.declared.Stop.TheVariants.{Failed};
+ghost use Rattle.batch.specs.Stops.{stop_text};
 
-use checker::Checked;
-use reading::Refusal;
-use std::io;
 use std::io::{Read, Write};
+use std::{fmt, io};
 
-pub fn say<W: Write>(out: &mut W, text: &[u8]) -> io::Result<()> {
-    out.write_all(text)
+// The most bytes of a case's table, values and sheet that are taken.
+pub const TABLE: usize = 16384;
+
+pub const VALUES: usize = 131072;
+
+pub const SHEET: usize = 1048576;
+
+// The bytes of a place's row in a sheet, named here too: table, the crate to share it by, knows no sheets.
+const ROW: usize = 64;
+
+// What ends a batch early: an input that ends inside a case, a table, values or a sheet that is too long, an unknown first word, or a failed read
+// or write.
+#[derive(Debug, Drop)]
+pub enum Stop {
+    Cut,
+    Long,
+    Unknown,
+    Failed(io::Error),
 }
 
-// A refusal's number and place.
-pub fn print_refusal<W: Write>(out: &mut W, r: Refusal) -> io::Result<()> {
-    write!(out, "refused {} {}", r.number, r.place)
+impl fmt::Display for Stop {
+    ghost output = { λ s. stop_text s };
+
+    fn fmt<W: fmt::Write>(&self, f: &mut fmt::Formatter<W>) -> fmt::Result {
+        match self {
+            Stop::Cut => write!(f, "cut"),
+            Stop::Long => write!(f, "long"),
+            Stop::Unknown => write!(f, "unknown"),
+            Stop::Failed(error) => write!(f, "{error}"),
+        }
+    }
 }
 
-// The first n bytes, or all if there are fewer, in hexadecimal.
+impl From<io::Error> for Stop {
+    ghost from_gives = { λ e s. s ≡ Failed e };
+
+    fn from(cause: io::Error) -> Stop {
+        Stop::Failed(cause)
+    }
+}
+
+// The first n bytes, or all if there are fewer, in hexadecimal. The parameters of a public function stay. No Display here and in the
+// two functions below: a Display would be of a type of ours, and what is printed are lent slices.
 pub fn print_bytes<W: Write>(out: &mut W, bytes: &[u8], n: usize) -> io::Result<()> {
-    let mut i: usize = 0;
-    while i < bytes.len() {
-        if i == n {
-            break;
-        }
-        let byte = bytes[i];
+    for byte in bytes.iter().take(n) {
         write!(out, "{byte:02x}")?;
-        i += 1;
     }
     Ok(())
 }
 
-// The codes of a row without its fill, or p for a row that has none.
+// The codes of a row without its fill, or p for a row that has none. Not shared with text: there the row goes to a lent buffer.
 fn print_row<W: Write>(out: &mut W, row: &[u8]) -> io::Result<()> {
-    say(out, b" ")?;
-    let mut i: usize = 0;
-    while i < row.len() {
-        let code = row[i];
-        if code == 0 {
-            break;
-        }
-        write!(out, "{code:02x}")?;
-        i += 1;
+    let codes = row.iter().take_while(|code| **code != 0).count();
+    if codes == 0 {
+        return out.write_all(b" p");
     }
-    if i == 0 {
-        say(out, b"p")?;
-    }
-    Ok(())
+    out.write_all(b" ")?;
+    print_bytes(out, row, codes)
 }
 
 fn print_rows<W: Write>(out: &mut W, sheet: &[u8]) -> io::Result<()> {
-    say(out, b"accepted")?;
-    let count = sheet.len() / 64;
-    let mut p: usize = 0;
-    while p < count {
-        let from = 64 * p;
-        let end = from + 64;
-        print_row(out, &sheet[from..end])?;
-        p += 1;
+    out.write_all(b"accepted")?;
+    for row in sheet.chunks_exact(ROW) {
+        print_row(out, row)?;
     }
     Ok(())
 }
 
 fn check_case<W: Write>(out: &mut W, table: &[u8], sheet: &mut [u8]) -> io::Result<()> {
-    let checked = checker::check(table, sheet);
-    match checked {
-        Checked::Refused(r) => print_refusal(out, r)?,
-        Checked::Accepted => print_rows(out, sheet)?,
+    match checker::check(table, sheet) {
+        Ok(()) => print_rows(out, sheet)?,
+        Err(refusal) => write!(out, "{refusal}")?,
     }
-    say(out, b"\n")
-}
-
-// Says why the batch stops.
-pub fn stop<W: Write>(out: &mut W, why: &[u8]) -> io::Result<bool> {
-    say(out, why)?;
-    Ok(false)
+    out.write_all(b"\n")
 }
 
 // Reads until the buffer is full or the input ends, and returns how many bytes it put at the start of the buffer.
+// A while: std's read_exact does not say how many bytes came before the end, and read_to_end fills a Vec, not a lent buffer.
 fn read_full<R: Read>(input: &mut R, buffer: &mut [u8]) -> io::Result<usize>
     ensures { ReadsAtMost result buffer.new }
 {
@@ -94,7 +102,7 @@ fn read_full<R: Read>(input: &mut R, buffer: &mut [u8]) -> io::Result<usize>
 }
 
 // How many of the next n bytes the input still has. They then stand at the start of the buffer. After a failed read it may hold
-// some of them; past n the buffer stays as it was.
+// some of them; past n the buffer stays as it was. Its clause `rest` speaks of the buffer past n, so n stands beside the buffer.
 pub fn next_bytes<R: Read>(input: &mut R, buffer: &mut [u8], n: usize) -> io::Result<usize>
     requires { n ≤ length buffer.old }
     ensures read { ReadsAtMost result buffer.new }
@@ -103,71 +111,31 @@ pub fn next_bytes<R: Read>(input: &mut R, buffer: &mut [u8], n: usize) -> io::Re
     read_full(input, &mut buffer[..n])
 }
 
-// Whether the input still has n bytes, which then stand in the buffer.
-pub fn take<R: Read>(input: &mut R, buffer: &mut [u8], n: usize) -> io::Result<bool>
-    requires { n ≤ length buffer.old }
-{
-    let got = next_bytes(input, buffer, n)?;
-    Ok(got == n)
-}
-
-// A check whose table, of t bytes, is next in the input, and whose sheet has n; whether the batch goes on.
-fn answer_check<R: Read, W: Write>(
-    input: &mut R,
-    out: &mut W,
-    table: &mut [u8],
-    t: usize,
-    sheet: &mut [u8],
-    n: usize,
-) -> io::Result<bool>
-    requires { (t ≤ length table.old) × (n ≤ length sheet.old) }
-{
-    let got = next_bytes(input, table, t)?;
-    if got < t {
-        return stop(out, b"cut\n");
+// Fills the buffer with the next bytes of the input.
+pub fn take<R: Read>(input: &mut R, buffer: &mut [u8]) -> Result<(), Stop> {
+    if read_full(input, buffer)? < buffer.len() {
+        return Err(Stop::Cut);
     }
-    check_case(out, &table[..got], &mut sheet[..n])?;
-    Ok(true)
+    Ok(())
 }
 
+// A check: the lengths of its table and of its sheet, and the table, are next in the input.
 pub fn next_check<R: Read, W: Write>(
     input: &mut R,
     out: &mut W,
     table: &mut [u8],
     sheet: &mut [u8],
-) -> io::Result<bool>
+) -> Result<(), Stop>
     requires { (16384 ≤ length table.old) × (1048576 ≤ length sheet.old) }
 {
-    let mut head = [0u8; 16];
-    if !take(input, &mut head, 8)? {
-        return stop(out, b"cut\n");
-    }
+    let mut head = [0u8; 8];
+    take(input, &mut head)?;
     let t = table::word(&head, 0);
     let n = table::word(&head, 4);
-    if t > 16384 {
-        return stop(out, b"long\n");
+    if t > TABLE || n > SHEET {
+        return Err(Stop::Long);
     }
-    if n > 1048576 {
-        return stop(out, b"long\n");
-    }
-    answer_check(input, out, table, t, sheet, n)
-}
-
-// Room for the longest table, values and sheet of a case. The contracts give only the lengths, which lending needs.
-pub fn table_room() -> [u8; 16384]
-    ensures { 16384 ≡ length result }
-{
-    [0; 16384]
-}
-
-pub fn values_room() -> [u8; 131072]
-    ensures { 131072 ≡ length result }
-{
-    [0; 131072]
-}
-
-pub fn sheet_room() -> [u8; 1048576]
-    ensures { 1048576 ≡ length result }
-{
-    [0; 1048576]
+    take(input, &mut table[..t])?;
+    check_case(out, &table[..t], &mut sheet[..n])?;
+    Ok(())
 }

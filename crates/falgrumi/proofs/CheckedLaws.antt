@@ -5,6 +5,7 @@ use mathlib.Core.Bool.{Bool, true}
 use mathlib.Core.List.{List}
 use mathlib.Core.Path.{◌≡◌, refl, sym, ap, ◌∙◌, subst}
 use lib.ListN.{length}
+use Rattle.std.specs.Prelude.{Result, Ok, Err}
 use Rattle.rules.specs.Ends.{End, done, refused, ◌>>=◌}
 use Rattle.rules.specs.Evaluation.{evaluation}
 use Rattle.rules.specs.Safety.{Any}
@@ -12,8 +13,6 @@ use Rattle.rules.specs.Verdict.{sheet_after}
 use Rattle.rules.proofs.Basics.{absurd01}
 use Rattle.laws.proofs.Soundness.{not_15}
 use Rattle.reading.specs.declared.Refusal.{Refusal}
-use Rattle.checker.specs.declared.Checked.{Checked}
-use Rattle.checker.specs.declared.Checked.TheVariants.{Accepted, Refused}
 use Rattle.checker.specs.Answers.{answer_of, answered}
 use Rattle.typing.specs.Model.{verdict}
 use Rattle.conforms.specs.Conforming.{conforming}
@@ -90,8 +89,8 @@ reported_byte bs buffer room budget =
     go (refused r p) h = h
 
 -- The answer, by that of Check.
-module _ (bs sheet buffer : List ℕ) (budget : ℕ) {r : Checked} (e : answer_of r ≡ answered (verdict bs (length sheet))) where
-  pub checked_refused : (y : Refusal) → r ≡ Refused y → refused y.number y.place ≡ checked_evaluation bs (length sheet) buffer budget
+module _ (bs sheet buffer : List ℕ) (budget : ℕ) {r : Result (Unit {0}) Refusal} (e : answer_of r ≡ answered (verdict bs (length sheet))) where
+  pub checked_refused : (y : Refusal) → r ≡ Err y → refused y.number y.place ≡ checked_evaluation bs (length sheet) buffer budget
   checked_refused y q =
       go (verdict bs (length sheet)) (sym (ap answer_of q) ∙ e) ∙ sym (checked_is bs buffer budget (length sheet))
     where
@@ -100,7 +99,7 @@ module _ (bs sheet buffer : List ℕ) (budget : ℕ) {r : Checked} (e : answer_o
       go (done rows) h = absurd (absurd01 (cc))
       go (refused s p) h = cc
 
-  pub checked_accepted : {after : List ℕ} → after ≡ sheet_after (verdict bs (length sheet)) sheet → (d : End Bool) (s : ℕ) (c : Bool) → r ≡ Accepted →
+  pub checked_accepted : {after : List ℕ} → after ≡ sheet_after (verdict bs (length sheet)) sheet → (d : End Bool) (s : ℕ) (c : Bool) → r ≡ Ok tt →
       d ≡ (evaluation bs buffer budget).end → s ≡ (evaluation bs buffer budget).steps → c ≡ conforming bs after buffer →
       done (record { end = d; steps = s; conforms = c }) ≡ checked_evaluation bs (length sheet) buffer budget
   checked_accepted {after} x d s c q ed es ec =

@@ -1,6 +1,6 @@
 -- Demand 3 of document 01: what acceptance by Check guarantees of every evaluation of the same table; and a checked evaluation,
 -- which tells whether the guarantee applies.
-use Rattle.std.specs.Prelude.{ℕ, Bool, true, List, ◌↔◌, ◌≡◌}
+use Rattle.std.specs.Prelude.{Result, Ok, Err, ℕ, Bool, true, List, ◌↔◌, ◌≡◌}
 use Rattle.rules.specs.Tables.{Table}
 use Rattle.rules.specs.Reading.{reading}
 use Rattle.rules.specs.Ends.{End, done, refused, ◌>>=◌}
@@ -10,8 +10,8 @@ use Rattle.rules.specs.Safety.{EndsSafely, Any, All}
 use Rattle.conforms.specs.Conforming.{HasWritten, Conforming, conforming}
 use Rattle.typing.specs.Model.{verdict}
 use Rattle.reports.specs.Result.{ending_of}
-use Rattle.falgrumi.specs.declared.Guarded.{Guarded}
-use Rattle.falgrumi.specs.declared.Guarded.TheVariants.{Refused, Evaluated}
+use Rattle.evaluate.specs.declared.GuardedRun.{GuardedRun}
+use Rattle.reading.specs.declared.Refusal.{Refusal}
 
 -- The evaluation ends in a truth or in a refusal of 16 to 19, never in 15, and every value that it forms has the type written
 -- for its node.
@@ -40,9 +40,9 @@ checked_evaluation bs room buffer budget = do
   })
 
 -- What `checked_evaluation` answers, in these terms.
-abbrev pub guarded_of : Guarded → End Report
-guarded_of (Refused r) = refused r.number r.place
-guarded_of (Evaluated e) =
+abbrev pub guarded_of : Result GuardedRun Refusal → End Report
+guarded_of (Err r) = refused r.number r.place
+guarded_of (Ok e) =
     done (record { end = ending_of e.evaluation.ending; steps = e.evaluation.steps; conforms = e.conforms })
 
 -- The report tells exactly whether the values conform to the sheet that Check has written; where they do, the guarantee holds,

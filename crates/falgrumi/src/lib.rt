@@ -2,25 +2,22 @@
 #![tactic(auto)]
 
 ghost use Rattle.std.specs.Prelude.{◌≡◌, length};
-ghost use Rattle.rules.specs.Values.{bit};
-ghost use Rattle.rules.specs.Tables.{table_of};
-ghost use Rattle.rules.specs.Readable.{Readable};
 ghost use Rattle.rules.specs.Verdict.{sheet_after};
 ghost use Rattle.typing.specs.Model.{verdict};
 ghost use Rattle.rules.specs.Evaluation.{evaluation};
 ghost use Rattle.rules.specs.Merges.{union_in};
-ghost use Rattle.reading.specs.Answers.{root_height};
 ghost use Rattle.conforms.specs.Conforming.{conforming};
 ghost use Rattle.falgrumi.specs.Guarantee.{checked_evaluation, guarded_of};
 ghost use Rattle.reports.specs.Told.{TellsEnd, TellsRun};
 ghost use Rattle.unions.specs.Answers.{cells_after};
 ghost use Rattle.falgrumi.specs.Answers.{TellsReport, TellsMerge};
 
-use checker::Checked;
-use evaluate::GuardedRun;
-use reading::{Height, Refusal};
+use evaluate::{GuardedRun, Inputs};
+use reading::Refusal;
 use reports::{Ending, Evaluation, Truth};
-use unions::MergeAnswer;
+use unions::MergeError;
+
+// The C interface fixes the parameters of the exports, that numbers tell refusals, and that a truth is a byte.
 
 // Check: the refusal's number, 0 where the table is accepted; its place goes to `place`.
 #[unsafe(no_mangle)]
@@ -30,21 +27,15 @@ pub extern "C" fn falgrumi_check(table: &[u8], sheet: &mut [u8], place: &mut u64
 {
     let checked = checker::check(table, sheet);
     match checked {
-        Checked::Accepted => {
+        Ok(()) => {
             *place = 0;
             0
         }
-        Checked::Refused(r) => {
+        Err(r) => {
             *place = r.place as u64;
-            reports::number_byte(r.number)
+            r.number as u8
         }
     }
-}
-
-fn bool_byte(b: bool) -> u8
-    ensures { result ≡ bit b }
-{
-    if b { 1 } else { 0 }
 }
 
 // Evaluate: the refusal's number, 0 where there is none. Its place goes to `place`, the condition's truth to `truth`, the
@@ -74,39 +65,26 @@ pub extern "C" fn falgrumi_conforms(table: &[u8], sheet: &[u8], values: &[u8]) -
 }
 
 // A checked evaluation: Check's refusal, or the evaluation of an accepted table, and whether the values have the types that Check wrote: then
-// demand 3's guarantee holds of it.
-#[derive(Drop)]
-pub enum Guarded {
-    Refused(Refusal),
-    Evaluated(GuardedRun),
-}
-
-// Checks a readable table, whose root has the height, and where it is accepted evaluates it and tests the values against the sheet.
-fn checked_run(table: &[u8], sheet: &mut [u8], values: &[u8], budget: u32, height: usize) -> Guarded
-    requires { Readable table.now × (height ≡ root_height (table_of table.now)) }
+// demand 3's guarantee holds of it. The table is read once for both.
+pub fn checked_evaluation(
+    table: &[u8],
+    sheet: &mut [u8],
+    values: &[u8],
+    budget: u32,
+) -> Result<GuardedRun, Refusal>
     ensures { (guarded_of result ≡ checked_evaluation table.now (length sheet.old) values.now budget) ×
         (sheet.new ≡ sheet_after (verdict table.now (length sheet.old)) sheet.old) }
 {
-    let checked = checker::check_readable(table, sheet);
-    match checked {
-        Checked::Refused(r) => Guarded::Refused(r),
-        Checked::Accepted => {
-            let run = evaluate::evaluate_sized(table, values, sheet, budget, height);
-            Guarded::Evaluated(run)
-        }
-    }
-}
-
-// Checks the table, and where it is accepted evaluates it and tests the values against the sheet. The table is read once for both.
-pub fn checked_evaluation(table: &[u8], sheet: &mut [u8], values: &[u8], budget: u32) -> Guarded
-    ensures { (guarded_of result ≡ checked_evaluation table.now (length sheet.old) values.now budget) ×
-        (sheet.new ≡ sheet_after (verdict table.now (length sheet.old)) sheet.old) }
-{
-    let height = reading::read_height(table);
-    match height {
-        Height::Refused(r) => Guarded::Refused(r),
-        Height::Root(h) => checked_run(table, sheet, values, budget, h),
-    }
+    let height = reading::read_height(table)?;
+    checker::check_readable(table, sheet)?;
+    let inputs = Inputs {
+        table,
+        values,
+        sheet,
+        budget,
+    };
+    let run = inputs.evaluate_sized(height);
+    Ok(run)
 }
 
 // A checked evaluation: the number of Check's refusal, else of the evaluation's, 0 where there is none. Whether the values
@@ -126,9 +104,8 @@ pub extern "C" fn falgrumi_checked_evaluate(
         result truth.new place.new steps.new conforms.new ×
         (sheet.new ≡ sheet_after (verdict table.now (length sheet.old)) sheet.old) }
 {
-    let guarded = checked_evaluation(table, sheet, values, budget);
-    match guarded {
-        Guarded::Refused(r) => {
+    match checked_evaluation(table, sheet, values, budget) {
+        Err(r) => {
             *conforms = 0;
             let e = Evaluation {
                 ending: Ending::Refused(r),
@@ -136,13 +113,18 @@ pub extern "C" fn falgrumi_checked_evaluate(
             };
             reports::tell(e, truth, place, steps)
         }
-        Guarded::Evaluated(g) => {
-            *conforms = bool_byte(g.conforms);
-            let e = g.evaluation;
-            reports::tell(e, truth, place, steps)
+        Ok(guarded) => {
+            *conforms = u8::from(guarded.conforms);
+            reports::tell(guarded.evaluation, truth, place, steps)
         }
     }
 }
+
+// The refusals of values that are not sets of one type, and of a value that weighs over 256. C's answer fixes the numbers; `Lack` of operations
+// has them too, but this crate does not rest on operations.
+const UNFIT: u8 = 15;
+
+const HEAVY: u8 = 18;
 
 // The values of the two lowest free identifiers, merged: the refusal's number, 15 where they are not sets of one type, 18 where their union
 // would weigh over 256, else 0. Its place goes to `place`, the comparisons of the whole merge to `comparisons`, the bytes of the union to `bytes`,
@@ -164,22 +146,21 @@ pub extern "C" fn falgrumi_merge(
     *comparisons = 0;
     *bytes = 0;
     match answer {
-        MergeAnswer::Refused(refusal) => {
-            *place = refusal.place as u64;
-            reports::number_byte(refusal.number)
-        }
-        MergeAnswer::Unfit => 15,
-        MergeAnswer::Heavy(n) => {
-            *comparisons = n;
-            18
-        }
-        MergeAnswer::United {
-            comparisons: n,
-            bytes: length,
-        } => {
-            *comparisons = n;
-            *bytes = length as u64;
+        Ok(merged) => {
+            *comparisons = merged.comparisons;
+            *bytes = merged.bytes as u64;
             0
         }
+        Err(error) => match error {
+            MergeError::Refused(refusal) => {
+                *place = refusal.place as u64;
+                refusal.number as u8
+            }
+            MergeError::Unfit => UNFIT,
+            MergeError::Heavy(n) => {
+                *comparisons = n;
+                HEAVY
+            }
+        },
     }
 }

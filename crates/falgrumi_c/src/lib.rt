@@ -1,4 +1,5 @@
-// The public library for C: each export calls the function of falgrumi that has its name, and states its clauses again.
+// The public library for C: each export calls the function of falgrumi that has its name, and states its clauses again. A crate is a library or
+// a static library, not both, so the exports stand here again. The C interface fixes their parameters, and that numbers tell refusals.
 #![tactic(auto)]
 
 ghost use Rattle.std.specs.Prelude.{◌≡◌, length};

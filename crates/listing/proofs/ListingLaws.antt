@@ -1,11 +1,11 @@
 -- The counts of a header, how long a listing can be, and the text for Check's answer.
 use Prim.Native.Nat.{ℕ, zero, suc, ◌+◌, ◌*◌, ◌-◌, ◌<◌, ◌≤◌}
-use mathlib.Core.Bool.{Bool, true, false, not, cond, ◌&&◌}
+use mathlib.Core.Bool.{Bool, true, false, cond, ◌&&◌}
 use mathlib.Core.List.{List, [], ◌∷◌, ◌++◌, append-nil, append_assoc}
 use mathlib.Core.Path.{◌≡◌, refl, sym, ◌∙◌, ap, ap₂, subst}
 use native.Mathlib.Nat.{suc-mul}
 use native.Mathlib.Omega.{arith}
-use lib.Dec.{T, ltb}
+use lib.Dec.{ltb}
 use lib.ListN.{length, take, drop, replicate, length-append, length-take}
 use lib.Seq.{take_at, length-take-le}
 use Rattle.rules.specs.Ends.{End, done, refused}
@@ -20,52 +20,30 @@ use Rattle.laws.proofs.ReadingLaws.{headed_right, limited_right, header_right, r
 use Rattle.typing.specs.Model.{verdict}
 use Rattle.checker.specs.Answers.{answered}
 use Rattle.text.specs.Text.{hex_of, unfilled, codes_text, row_text, index_of, line_of, sheet_row, lines_of, accepted_line, refusal_line, Appends}
-use Rattle.text.proofs.TextLaws.{decimal_short, unfilled_more, line_extent, refusal_extent}
+use Rattle.text.proofs.TextLaws.{hex_extent, decimal_short, unfilled_more, line_extent, refusal_extent}
 use Rattle.listing.specs.Listing.{answer_text, identifiers_of, places_of, listing_of}
 
--- What the tests of a header say.
-pub unheaded : (bs : List ℕ) (r : Bool) → r ≡ headed bs → not r ≡ true → false ≡ (headed bs && limited bs)
-unheaded bs true e n = absurd (absurd_true n)
-  where
-    absurd_true : false ≡ true → ⊥
-    absurd_true q = subst (λ b. T (not b)) q tt
-unheaded bs false e n = ap (λ b. b && limited bs) e
-
-pub headed_long : (bs : List ℕ) (r : Bool) → r ≡ headed bs → not r ≡ false → 32 ≤ length bs
-headed_long bs true e n = ((headed_right bs).0 (subst T e tt)).0
-headed_long bs false e n = absurd (subst T n tt)
-
-pub headed_limited : (bs : List ℕ) (r q : Bool) → r ≡ headed bs → not r ≡ false → q ≡ limited bs → q ≡ (headed bs && limited bs)
-headed_limited bs true q e n l = l ∙ ap (λ b. b && limited bs) e
-headed_limited bs false q e n l = absurd (subst T n tt)
+-- A header that passes the first test is long enough for the second.
+pub headed_long : (bs : List ℕ) (r : Bool) → r ≡ headed bs → r ≡ true → 32 ≤ length bs
+headed_long bs r e t = ((headed_right bs).0 ((T_true _).1 (sym e ∙ t))).0
 
 -- Without counts both numbers are 0; with them they are the header's, within the limits.
-module _ (bs : List ℕ) where
-  pub no_counts : (r : Bool) → r ≡ (headed bs && limited bs) → not r ≡ true → (0 ≡ identifiers_of bs) × (0 ≡ places_of bs)
+module _ (bs : List ℕ) (r : Bool) (e : r ≡ (headed bs && limited bs)) where
+  pub no_counts : r ≡ false → (0 ≡ identifiers_of bs) × (0 ≡ places_of bs)
   unfolding identifiers_of places_of
-  no_counts true e n = absurd (subst (λ b. T (not b)) n tt)
-  no_counts false e n = (rw (← e) refl, rw (← e) refl)
+  no_counts f = (rw (← e, f) refl, rw (← e, f) refl)
 
-  pub with_counts : (r : Bool) → r ≡ (headed bs && limited bs) → not r ≡ false →
-      (identifier_count bs ≡ identifiers_of bs) × (identifier_count bs + node_count bs ≡ places_of bs)
+  pub with_counts : r ≡ true → (identifier_count bs ≡ identifiers_of bs) × (identifier_count bs + node_count bs ≡ places_of bs)
   unfolding identifiers_of places_of
-  with_counts true e n = (rw (← e) refl, rw (← e) refl)
-  with_counts false e n = absurd (subst T n tt)
+  with_counts t = (rw (← e, t) refl, rw (← e, t) refl)
 
-  pub counts_header : (r : Bool) → r ≡ (headed bs && limited bs) → not r ≡ false →
-      (32 ≤ length bs) × (identifier_count bs ≤ 32) × (node_count bs ≤ 512)
-  counts_header true e n =
-      let s = and_split (headed bs) (limited bs) (subst T e tt) in
+  pub counts_header : r ≡ true → (32 ≤ length bs) × (identifier_count bs ≤ 32) × (node_count bs ≤ 512)
+  counts_header t =
+      let s = and_split (headed bs) (limited bs) ((T_true _).1 (sym e ∙ t)) in
       let l = (limited_right bs).0 s.1 in
       (((headed_right bs).0 s.0).0, omega (arith, l), omega (arith, l))
-  counts_header false e n = absurd (subst T n tt)
 
 -- How long a listing can be: a line has at most 153 bytes, a refusal 50.
-hex_extent : (cs : List ℕ) → length (hex_of cs) ≡ 2 * length cs
-unfolding hex_of
-hex_extent [] = refl
-hex_extent (c ∷ cs) = let h = hex_extent cs in omega arith
-
 unfilled_short : (row : List ℕ) → length (unfilled row) ≤ length row
 unfolding unfilled
 unfilled_short [] = omega arith

@@ -1,2 +1,3 @@
 -- The lines of a listing.
 pub mod Text
+pub mod Grown

@@ -1,155 +1,152 @@
-// The lines of a listing, written into a lent buffer. Each function writes from `at` on and answers the place after its text.
+// The lines of a listing, written into a lent buffer.
 #![tactic(auto)]
 
-ghost use Rattle.std.specs.Prelude.{[], ◌∷◌, ◌++◌, ◌≡◌, ◌+◌, ◌*◌, ◌<◌, ◌≤◌, length};
-ghost use Rattle.io.specs.Digits.{hex_digit_ascii as Digits·glyph};
-ghost use Rattle.text.specs.Text.{decimal_of, hex_byte, hex_of, unfilled, row_text, letter_of, index_of, line_of, lines_of, refusal_line, accepted_line, Appends};
+ghost use Rattle.std.specs.Prelude.{◌++◌, ◌≡◌, ◌==◌, ◌+◌, ◌*◌, ◌≤◌, length, position};
+ghost use Rattle.text.specs.Text.{decimal_of, hex_of, unfilled, row_text, letter_of, index_of, line_of, lines_of, refusal_line, accepted_line, Appends};
+ghost use Rattle.text.specs.Grown.{HasRoom, TextGrown};
 
-fn wide(x: u8) -> usize
-    ensures { (result ≡ x) × (result < 256) }
-{
-    x as usize
+// The bytes of a place's row in a sheet, named here too: this crate depends on none that reads tables or sheets.
+const ROW: usize = 64;
+
+// A text that grows in a lent buffer: the next byte goes to `at`. The public functions take and answer a place instead,
+// since their clauses `Appends` speak of it.
+#[derive(Drop)]
+struct Text<'a> {
+    out: &'a mut [u8],
+    at: usize,
 }
 
-fn put(out: &mut [u8], at: usize, b: u8) -> usize
-    requires { at < length out.old }
-    ensures { Appends out.old at (b ∷ []) result out.new }
-{
-    out[at] = b;
-    at + 1
-}
-
-fn put_all(out: &mut [u8], at: usize, text: &[u8]) -> usize
-    requires { at + length text.now ≤ length out.old }
-    ensures { Appends out.old at text.now result out.new }
-{
-    let mut next = at;
-    let mut i: usize = 0;
-    while i < text.len() {
-        let b = text[i];
-        next = put(out, next, b);
-        i += 1;
+impl<'a> Text<'a> {
+    fn bytes(&mut self, bytes: &[u8])
+        requires { HasRoom self.old bytes.now }
+        ensures { TextGrown self.old bytes.now self.new }
+    {
+        let end = self.at + bytes.len();
+        self.out[self.at..end].copy_from_slice(bytes);
+        self.at = end;
     }
-    next
-}
 
-// The character of a digit below 16.
-fn glyph(d: usize) -> u8
-    requires { d < 16 }
-    ensures { result ≡ Digits·glyph d }
-{
-    if d < 10 { 48 + d as u8 } else { 87 + d as u8 }
-}
-
-fn put_decimal(out: &mut [u8], at: usize, n: usize) -> usize
-    requires { at + length (decimal_of n) ≤ length out.old }
-    ensures { Appends out.old at (decimal_of n) result out.new }
-{
-    if n < 10 {
-        return put(out, at, glyph(n));
+    fn decimal(&mut self, n: usize)
+        requires { HasRoom self.old (decimal_of n) }
+        ensures { TextGrown self.old (decimal_of n) self.new }
+    {
+        let mut digits = itoa::Buffer::new();
+        self.bytes(digits.format(n).as_bytes());
     }
-    let next = put_decimal(out, at, n / 10);
-    put(out, next, glyph(n % 10))
+
+    fn hex(&mut self, codes: &[u8])
+        requires { HasRoom self.old (hex_of codes.now) }
+        ensures { TextGrown self.old (hex_of codes.now) self.new }
+    {
+        let end = self.at + 2 * codes.len();
+        // There are two digits for each code, so this does not fail.
+        hex::encode_to_slice(codes, &mut self.out[self.at..end]).unwrap();
+        self.at = end;
+    }
+
+    // The codes of a row, or p where there are none.
+    fn row(&mut self, row: &[u8])
+        requires { HasRoom self.old (row_text row.now) }
+        ensures { TextGrown self.old (row_text row.now) self.new }
+    {
+        let codes = unfilled(row);
+        if codes.is_empty() {
+            self.bytes(b"p");
+        } else {
+            self.hex(codes);
+        }
+    }
+
+    // The line of place p, where the first places are the identifiers.
+    #[tactic(auto, using(crate::proofs::TextLaws::line_extent))]
+    fn line(&mut self, identifiers: usize, p: usize, row: &[u8])
+        requires { HasRoom self.old (line_of identifiers p row.now) }
+        ensures { TextGrown self.old (line_of identifiers p row.now) self.new }
+    {
+        let (letter, number) = name(identifiers, p);
+        self.bytes(&[letter, b' ']);
+        self.decimal(number);
+        self.bytes(b" ");
+        self.row(row);
+        self.bytes(b"\n");
+    }
+
+    // The lines of all places.
+    fn lines(&mut self, identifiers: usize, count: usize, sheet: &[u8])
+        requires { (64 * count ≤ length sheet.now) × HasRoom self.old (lines_of identifiers count sheet.now) }
+        ensures { TextGrown self.old (lines_of identifiers count sheet.now) self.new }
+    {
+        for p in 0..count {
+            self.line(identifiers, p, &sheet[ROW * p..ROW * p + ROW]);
+        }
+    }
+
+    // The line of a refusal.
+    #[tactic(auto, using(crate::proofs::TextLaws::refusal_extent))]
+    fn refusal(&mut self, number: usize, place: usize)
+        requires { HasRoom self.old (refusal_line number place) }
+        ensures { TextGrown self.old (refusal_line number place) self.new }
+    {
+        self.bytes(b"refused ");
+        self.decimal(number);
+        self.bytes(b" ");
+        self.decimal(place);
+        self.bytes(b"\n");
+    }
 }
 
-fn put_hex(out: &mut [u8], at: usize, b: u8) -> usize
-    requires { at + 2 ≤ length out.old }
-    ensures { Appends out.old at (hex_byte b) result out.new }
+// Where a row's fill begins, if it has one: no code is 0.
+fn fill(row: &[u8]) -> Option<usize>
+    ensures { result ≡ position (λ x. x == 0) row.now }
 {
-    let n = wide(b);
-    let next = put(out, at, glyph(n / 16));
-    put(out, next, glyph(n % 16))
+    row.iter().position(|code| *code == 0)
 }
 
 // The codes of a row without its fill.
-fn put_codes(out: &mut [u8], at: usize, row: &[u8]) -> usize
-    requires { at + length (hex_of (unfilled row.now)) ≤ length out.old }
-    ensures { Appends out.old at (hex_of (unfilled row.now)) result out.new }
+fn unfilled(row: &[u8]) -> &[u8]
+    ensures { result.now ≡ unfilled row.now }
 {
-    let mut next = at;
-    let mut i: usize = 0;
-    while i < row.len() {
-        let b = row[i];
-        if b == 0 {
-            return next;
-        }
-        next = put_hex(out, next, b);
-        i += 1;
-    }
-    next
-}
-
-// The codes, or p where there are none.
-fn put_row(out: &mut [u8], at: usize, row: &[u8]) -> usize
-    requires { at + length (row_text row.now) ≤ length out.old }
-    ensures { Appends out.old at (row_text row.now) result out.new }
-{
-    let next = put_codes(out, at, row);
-    if next == at {
-        return put(out, next, b'p');
-    }
-    next
+    &row[..fill(row).unwrap_or(row.len())]
 }
 
 // i or n, and the number among identifiers or nodes.
-fn letter(identifiers: usize, p: usize) -> u8
-    ensures { result ≡ letter_of identifiers p }
+fn name(identifiers: usize, p: usize) -> (u8, usize)
+    ensures { (result.0 ≡ letter_of identifiers p) × (result.1 ≡ index_of identifiers p) }
 {
-    if p < identifiers { b'i' } else { b'n' }
+    if p < identifiers {
+        (b'i', p)
+    } else {
+        (b'n', p - identifiers)
+    }
 }
 
-fn index(identifiers: usize, p: usize) -> usize
-    ensures { result ≡ index_of identifiers p }
-{
-    if p < identifiers { p } else { p - identifiers }
-}
-
-// The line of place p, where the first places are the identifiers.
+// The line of place p, where the first places are the identifiers, written from `at` on; answers the place after it.
 pub fn line(out: &mut [u8], at: usize, identifiers: usize, p: usize, row: &[u8]) -> usize
     requires { at + length (line_of identifiers p row.now) ≤ length out.old }
     ensures { Appends out.old at (line_of identifiers p row.now) result out.new }
 {
-    let named = put(out, at, letter(identifiers, p));
-    let spaced = put(out, named, b' ');
-    let numbered = put_decimal(out, spaced, index(identifiers, p));
-    let parted = put(out, numbered, b' ');
-    let filled = put_row(out, parted, row);
-    put(out, filled, b'\n')
+    let mut text = Text { out, at };
+    text.line(identifiers, p, row);
+    text.at
 }
 
-// The lines of all places.
-fn lines(out: &mut [u8], identifiers: usize, count: usize, sheet: &[u8]) -> usize
-    requires { (64 * count ≤ length sheet.now) × (length (lines_of identifiers count sheet.now) ≤ length out.old) }
-    ensures { Appends out.old 0 (lines_of identifiers count sheet.now) result out.new }
-{
-    let mut at: usize = 0;
-    let mut p: usize = 0;
-    while p < count {
-        let from = 64 * p;
-        let end = from + 64;
-        at = line(out, at, identifiers, p, &sheet[from..end]);
-        p += 1;
-    }
-    at
-}
-
-// The whole text of an accepted table.
+// The whole text of an accepted table; answers its length.
 pub fn accepted(out: &mut [u8], identifiers: usize, count: usize, sheet: &[u8]) -> usize
     requires { (64 * count ≤ length sheet.now) × (length (lines_of identifiers count sheet.now ++ accepted_line) ≤ length out.old) }
     ensures { Appends out.old 0 (lines_of identifiers count sheet.now ++ accepted_line) result out.new }
 {
-    let at = lines(out, identifiers, count, sheet);
-    put_all(out, at, b"accepted\n")
+    let mut text = Text { out, at: 0 };
+    text.lines(identifiers, count, sheet);
+    text.bytes(b"accepted\n");
+    text.at
 }
 
-// The line of a refused table.
+// The line of a refused table; answers its length.
 pub fn refused(out: &mut [u8], number: usize, place: usize) -> usize
     requires { length (refusal_line number place) ≤ length out.old }
     ensures { Appends out.old 0 (refusal_line number place) result out.new }
 {
-    let worded = put_all(out, 0, b"refused ");
-    let numbered = put_decimal(out, worded, number);
-    let parted = put(out, numbered, b' ');
-    let placed = put_decimal(out, parted, place);
-    put(out, placed, b'\n')
+    let mut text = Text { out, at: 0 };
+    text.refusal(number, place);
+    text.at
 }

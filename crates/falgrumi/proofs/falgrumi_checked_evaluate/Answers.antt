@@ -6,8 +6,8 @@ use Rattle.falgrumi.proofs.falgrumi_checked_evaluate.Goals as goal
 
 pub tell-requires : goal.tell-requires
 tell-requires c =
-    let low : c.in-Refused.r.number < 256 = report_byte _ _ c.checked_evaluation-guarded.ensures.0 c.in-Refused.is (reported_byte _ _ _ _) in
+    let low : c.in-Err.r.number < 256 = report_byte _ _ c.checked_evaluation.ensures.0 c.in-Err.is (reported_byte _ _ _ _) in
     search rules
 
-pub tell-requires-in-Evaluated : goal.tell-requires-in-Evaluated
-tell-requires-in-Evaluated c = report_byte _ _ c.checked_evaluation-guarded.ensures.0 c.in-Evaluated.is (reported_byte _ _ _ _)
+pub tell-requires-in-Ok : goal.tell-requires-in-Ok
+tell-requires-in-Ok c = report_byte _ _ c.checked_evaluation.ensures.0 c.in-Ok.is (reported_byte _ _ _ _)

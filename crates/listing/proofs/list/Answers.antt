@@ -24,39 +24,39 @@ room i count sheet out h k = omega (arith, accepted_short i count sheet h, k)
 
 pub refused-requires : goal.refused-requires
 refused-requires c =
-    let r = c.in-Refused.r in
+    let r = c.in-Err.r in
     omega (arith, refusal_short r.number r.place (search rules) (search rules), c.requires.1)
 
 pub accepted-requires : goal.accepted-requires
 accepted-requires c =
-    let n = c.places-count.result in
+    let n = c.counts-identifiers.result.1 in
     let s = c.args.sheet.now in
-    let rows = c.check-checked.new.sheet in
-    let small = c.places-count.ensures.1 in
-    let same = printed_rows n rows s c.check-checked.auto.sheet small c.requires.0 in (
-      omega (arith, part_long n s small c.requires.0, ap length same, c.check-checked.auto.sheet),
-      room c.identifiers.result n (take (64 * n) (rows ++ drop (64 * n) s)) c.args.out.now small c.requires.1,
+    let rows = c.check.new.sheet in
+    let small = c.counts-identifiers.ensures.2 in
+    let same = printed_rows n rows s c.check.auto.sheet small c.requires.0 in (
+      omega (arith, part_long n s small c.requires.0, ap length same, c.check.auto.sheet),
+      room c.counts-identifiers.result.0 n (take (64 * n) (rows ++ drop (64 * n) s)) c.args.out.now small c.requires.1,
     )
 
-pub returns-in-Refused : goal.returns-in-Refused
-returns-in-Refused c =
-    let n = c.places-count.result in
-    let r = c.in-Refused.r in
+pub returns-in-Err : goal.returns-in-Err
+returns-in-Err c =
+    let n = c.counts-identifiers.result.1 in
+    let r = c.in-Err.r in
     let short = refusal_short r.number r.place (search rules) (search rules) in
     whole_text c.refused.ensures (omega (arith, short, c.requires.1))
-    (listing_refused c.args.table.now n _ _ _ c.places-count.ensures.0 (part_long n c.args.sheet.now c.places-count.ensures.1 c.requires.0)
-    (sym (ap answer_of c.in-Refused.is) ∙ c.check-checked.ensures.0))
+    (listing_refused c.args.table.now n _ _ _ c.counts-identifiers.ensures.1 (part_long n c.args.sheet.now c.counts-identifiers.ensures.2 c.requires.0)
+    (sym (ap answer_of c.in-Err.is) ∙ c.check.ensures.0))
 
-pub returns-in-Accepted : goal.returns-in-Accepted
-returns-in-Accepted c =
-    let n = c.places-count.result in
+pub returns-in-Ok : goal.returns-in-Ok
+returns-in-Ok c =
+    let n = c.counts-identifiers.result.1 in
     let s = c.args.sheet.now in
-    let rows = c.check-checked.new.sheet in
-    let small = c.places-count.ensures.1 in
-    let same = printed_rows n rows s c.check-checked.auto.sheet small c.requires.0 in
-    let i = c.identifiers.result in
+    let rows = c.check.new.sheet in
+    let small = c.counts-identifiers.ensures.2 in
+    let same = printed_rows n rows s c.check.auto.sheet small c.requires.0 in
+    let i = c.counts-identifiers.result.0 in
     let written = ap (λ l. lines_of i n l ++ accepted_line) same in
     whole_text c.accepted.ensures
     (room i n (take (64 * n) (rows ++ drop (64 * n) s)) c.args.out.now small c.requires.1)
-    (written ∙ listing_accepted c.args.table.now i n _ rows (take (64 * n) s) c.identifiers.ensures c.places-count.ensures.0
-    (part_long n s small c.requires.0) (sym (ap answer_of c.in-Accepted.is) ∙ c.check-checked.ensures.0) c.check-checked.ensures.1)
+    (written ∙ listing_accepted c.args.table.now i n _ rows (take (64 * n) s) c.counts-identifiers.ensures.0 c.counts-identifiers.ensures.1
+    (part_long n s small c.requires.0) (sym (ap answer_of c.in-Ok.is) ∙ c.check.ensures.0) c.check.ensures.1)

@@ -1,0 +1,2 @@
+-- What the batch prints of its early end.
+pub mod Stops
