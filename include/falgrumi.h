@@ -12,8 +12,8 @@
  * Threads. Nothing is kept between calls, and there is no shared state: calls may run at the same time, if no one writes
  *   what another reads or writes.
  * Stack. The functions allocate nothing and work on the caller's stack. The most that was measured (x86-64; tall tables over
- *   deeply nested values, deep types, and generated ones; with the kit before the port, see docs/PORT.md) is 53 KB for
- *   falgrumi_check, 191 KB for falgrumi_evaluate and 99 KB for falgrumi_merge. falgrumi_checked_evaluate takes what the larger
+ *   deeply nested values, deep types, and generated ones) is 47 KB for falgrumi_check, 188 KB for falgrumi_evaluate and 99 KB
+ *   for falgrumi_merge. falgrumi_checked_evaluate takes what the larger
  *   of its calls takes. Lend 0.3 MB.
  * Bytes. A word is 4 bytes, least byte first. */
 #ifndef FALGRUMI_H
