@@ -11,8 +11,10 @@ use lib.ListN.{length, take, drop, get_or, length-append, length-drop}
 use lib.Seq.{take_at, length-take-le}
 use borrow.Author.Tests.{lt-ltb, le-ltb, ltb-false, ne_eqb}
 use Rattle.std.proofs.Common.{inl, inr, eq-zero-or-pos, eqb→eq, Some, None, unwrap_or}
+use Rattle.std.specs.Char.{to_ascii_lowercase}
 use Rattle.std.specs.Fmt.{decimal}
 use Rattle.std.specs.List.{position, position_or_len}
+use Rattle.std.specs.Prelude.{map}
 use Rattle.std.proofs.lemmas.List.Sums.{prefix_len-le-length}
 use Rattle.std.proofs.lemmas.Fmt.{AppendsLastDigit, decimal_from_appends, length-decimal-le_succ, length-decimal-le}
 use Rattle.hex.specs.Hex.{lower_digits, encode_with, encode_lower}
@@ -101,21 +103,24 @@ pub decimal_short : (n : ℕ) → n < 18446744073709551616 → length (decimal_o
 decimal_short n h = omega (arith, ap length (decimal_text n h), length-decimal-le 20 n (omega arith) (omega arith) (omega arith))
 
 -- The library's hexadecimal text of bytes is that of a listing.
-abbrev glyphs_below : ℕ → Bool
-glyphs_below zero = true
-glyphs_below (suc d) = eqb (get_or lower_digits d 0) (hex_digit_ascii d) && glyphs_below d
+abbrev glyphs_below : (ℕ → ℕ) → ℕ → Bool
+glyphs_below f zero = true
+glyphs_below f (suc d) = eqb (f (get_or lower_digits d 0)) (hex_digit_ascii d) && glyphs_below f d
 
-glyph_at : (n d : ℕ) → T (glyphs_below n) → d < n → get_or lower_digits d 0 ≡ hex_digit_ascii d
-glyph_at zero d t h = absurd (omega arith)
-glyph_at (suc n) d t h =
-    let s = and_split (eqb (get_or lower_digits n 0) (hex_digit_ascii n)) (glyphs_below n) t in
+glyph_at : (f : ℕ → ℕ) (n d : ℕ) → T (glyphs_below f n) → d < n → f (get_or lower_digits d 0) ≡ hex_digit_ascii d
+glyph_at f zero d t h = absurd (omega arith)
+glyph_at f (suc n) d t h =
+    let s = and_split (eqb (f (get_or lower_digits n 0)) (hex_digit_ascii n)) (glyphs_below f n) t in
     elim (eq-zero-or-pos (n - d)) [
       | inl z ↦ let e : d ≡ n = omega arith in rw e (eqb→eq _ _ s.0)
-      | inr g ↦ glyph_at n d s.1 (omega arith)
+      | inr g ↦ glyph_at f n d s.1 (omega arith)
     ]
 
 glyph : (d : ℕ) → d < 16 → get_or lower_digits d 0 ≡ hex_digit_ascii d
-glyph d h = glyph_at 16 d tt h
+glyph d h = glyph_at (λ x. x) 16 d tt h
+
+lowered_glyph : (d : ℕ) → d < 16 → to_ascii_lowercase (get_or lower_digits d 0) ≡ hex_digit_ascii d
+lowered_glyph d h = glyph_at to_ascii_lowercase 16 d tt h
 
 pub hex_text : (bytes : List ℕ) → ((k : ℕ) → k < length bytes → get_or bytes k 0 < 256) → encode_lower bytes ≡ hex_of bytes
 unfolding hex_of encode_with
@@ -124,6 +129,16 @@ hex_text (b ∷ bs) h =
     let small : b < 256 = h 0 (omega arith) in
     ap₂ (λ (x y : ℕ). x ∷ y ∷ encode_lower bs) (glyph (b / 16) (omega arith)) (glyph (b % 16) (omega arith))
     ∙ ap (λ (l : List ℕ). hex_byte b ++ l) (hex_text bs (λ k l. h (suc k) (omega arith)))
+
+-- It stays so in lower case: `hex_digits` is still proved where its digits are put in lower case, so upper case is refused for its letters alone.
+pub hex_lowered : (bytes : List ℕ) → ((k : ℕ) → k < length bytes → get_or bytes k 0 < 256) →
+    map to_ascii_lowercase (encode_lower bytes) ≡ hex_of bytes
+unfolding hex_of encode_with
+hex_lowered [] h = refl
+hex_lowered (b ∷ bs) h =
+    let small : b < 256 = h 0 (omega arith) in
+    ap₂ (λ (x y : ℕ). x ∷ y ∷ map to_ascii_lowercase (encode_lower bs)) (lowered_glyph (b / 16) (omega arith)) (lowered_glyph (b % 16) (omega arith))
+    ∙ ap (λ (l : List ℕ). hex_byte b ++ l) (hex_lowered bs (λ k l. h (suc k) (omega arith)))
 
 pub hex_extent : (bytes : List ℕ) → length (hex_of bytes) ≡ 2 * length bytes
 unfolding hex_of

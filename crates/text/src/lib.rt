@@ -39,8 +39,7 @@ impl<'a> Text<'a> {
         ensures { TextGrown self.old (hex_of codes.now) self.new }
     {
         let end = self.at + 2 * codes.len();
-        // There are two digits for each code, so this does not fail.
-        hex::encode_to_slice(codes, &mut self.out[self.at..end]).unwrap();
+        hex_digits(codes, &mut self.out[self.at..end]);
         self.at = end;
     }
 
@@ -93,6 +92,16 @@ impl<'a> Text<'a> {
         self.decimal(place);
         self.bytes(b"\n");
     }
+}
+
+// Codes in hexadecimal, filling `out`: a function of its own, so that what is wrong in the digits alone is refused here.
+#[tactic(auto, using(crate::proofs::TextLaws::hex_text, crate::proofs::TextLaws::hex_lowered))]
+fn hex_digits(codes: &[u8], out: &mut [u8])
+    requires { length out.old ≡ 2 * length codes.now }
+    ensures { out.new ≡ hex_of codes.now }
+{
+    // There are two digits for each code, so this does not fail.
+    hex::encode_to_slice(codes, out).unwrap();
 }
 
 // Where a row's fill begins, if it has one: no code is 0.
