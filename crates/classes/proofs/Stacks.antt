@@ -8,7 +8,7 @@ use native.Mathlib.Decide.{ℕ_discrete, dec_lt}
 use lib.ListN.{get_or, length}
 use Rattle.rules.specs.Types.{Ty}
 use Rattle.terms.specs.Words.{word_form, word_left, word_right}
-use Rattle.terms.specs.Terms.{TermIn, Satisfies, SaysAlso}
+use Rattle.terms.specs.Terms.{TermIn, Terms, Satisfies, SaysAlso}
 use Rattle.terms.proofs.SaysLaws.{old_trans}
 use Rattle.terms.specs.declared.Stack.{Stack}
 use Rattle.classes.specs.Finding.{Shortened, ClassFound}
@@ -103,6 +103,9 @@ both_found {n} {b} e {ts'} {ts''} {q} f f' ae be =
       q_shape = g.shape;
       same = λ θ s. (ap θ (sym ae) ∙ f.leads.same θ s, ap θ (sym be) ∙ g.leads.same θ ((f.leads.shortened.iff θ).0 s));
     }
+
+pub terms_own : {n : ℕ} {ts : List ℕ} → Terms n ts → Terms (length ts) ts
+terms_own {n} {ts} t = subst (λ m. Terms m ts) (sym t.len) t
 
 -- ---- one turn
 module _ {n : ℕ} {ts stack : List ℕ} {h e : ℕ} (o : Turnable n ts stack h e) {ts' : List ℕ} {p q : ℕ} (f : BothFound n ts e ts' p q) where

@@ -1,15 +1,17 @@
--- The sizes of a table's constraints, and an entry of `starts` taken apart.
+-- The sizes of a table's constraints, an entry of `starts` taken apart, and the constraints of the first nodes: they stand in the first parts
+-- of the arrays that hold those of more nodes.
 use Prim.Native.Nat.{ℕ, ◌+◌, ◌*◌, ◌/◌, ◌%◌, ◌≤◌, ◌<◌}
 use mathlib.Core.List.{List}
-use mathlib.Core.Path.{◌≡◌}
+use mathlib.Core.Path.{◌≡◌, ◌∙◌}
 use native.Mathlib.Omega.{arith}
 use lib.ListN.{get_or, length}
 use Rattle.rules.specs.Readable.{Header}
-use Rattle.rules.specs.Tables.{table_of, node_count}
+use Rattle.rules.specs.Tables.{Table, table_of, node_count}
 use Rattle.laws.proofs.TableLaws.{binds_length}
 use Rattle.typing.specs.Equations.{base, equations}
-use Rattle.typing.proofs.EquationCounts.{equations_bound}
-use Rattle.typing.proofs.VariableLaws.{base_bound}
+use Rattle.typing.proofs.EquationCounts.{equations_bound, equations_mono, equations_grow}
+use Rattle.typing.proofs.VariableLaws.{base_mono, base_bound}
+use Rattle.constraints.specs.Constrained.{Constrained}
 use Rattle.constraints.specs.Rules.{StartsTo}
 
 -- The sizes for a table of 32 identifiers and 512 nodes.
@@ -30,3 +32,12 @@ module _ {bs : List ℕ} (h : Header bs) {n : ℕ} (l : n ≤ node_count bs) (st
 
   pub count_is_law : {k m : ℕ} → k ≤ n → m ≡ get_or starts k 0 / 4096 → m ≡ length (equations (table_of bs) k)
   count_is_law {k} g e = omega (arith, q k g, few_variables h {k = k} (omega arith))
+
+-- The constraints of the nodes below k.
+pub constrained_part : {tb : Table} {n k : ℕ} {shapes eqns starts : List ℕ} → k ≤ n → Constrained tb n shapes eqns starts →
+    Constrained tb k shapes eqns starts
+constrained_part {tb} {n} {k} h q = record {
+  starts_are = λ m l. q.starts_are m (omega arith);
+  shapes_are = λ v l. q.shapes_are v (omega (arith, base_mono tb {n = k} n h));
+  equations_are = λ i l. q.equations_are i (omega (arith, equations_mono tb {k = k} n h)) ∙ equations_grow tb {k = k} n i h l;
+}

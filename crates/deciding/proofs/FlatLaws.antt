@@ -1,6 +1,6 @@
 -- One turn of flattening: a link to a link becomes the further link, which goes to a class, since the smaller variables' links do. It says
 -- the same of types, since the first link's variable keeps its own.
-use Prim.Native.Nat.{ℕ, ◌+◌, ◌<◌}
+use Prim.Native.Nat.{ℕ, ◌+◌, ◌<◌, ◌≤◌}
 use mathlib.Core.List.{List}
 use mathlib.Core.Logic.{◌≢◌, inl, inr}
 use mathlib.Core.Path.{◌≡◌, refl, sym, ap, ◌∙◌, subst}
@@ -14,6 +14,17 @@ use Rattle.terms.specs.Terms.{TermIn, Terms, MeetsTerm, Satisfies, TermFrom, cla
 use Rattle.terms.proofs.TermLaws.{term_link, link_below, class_known}
 use Rattle.deciding.specs.Marking.{FlattenedTo, FlatTo}
 use Rattle.deciding.proofs.Graphs.{class_down}
+
+-- ---- the word that a link becomes
+pub keep_other : (ts : List ℕ) (w : ℕ) → word_form w ≢ 4 → FlattenedTo ts w w
+keep_other ts w ne = inl (refl, λ e. absurd (ne e))
+
+module _ (ts : List ℕ) (w x : ℕ) (k : word_form w ≡ 4) (e : x ≡ word_right w) where
+  pub keep_link : word_form (get_or ts x 0) ≢ 4 → FlattenedTo ts w w
+  keep_link ne = inl (refl, λ k. rw (← e) ne)
+
+  pub take_link : word_form (get_or ts x 0) ≡ 4 → FlattenedTo ts w (get_or ts x 0)
+  take_link l = inr (k, rw (← e) l, rw e refl)
 
 -- ---- the terms
 module _ {n : ℕ} {ts₀ ts : List ℕ} {v : ℕ} (f : FlatTo n ts₀ ts v) (h : v < n) where
@@ -129,3 +140,6 @@ module _ {n : ℕ} {ts₀ ts : List ℕ} {v : ℕ} (f : FlatTo n ts₀ ts v) (h 
 
   pub flat_asks : Terms (length ts) ts × (v < length ts)
   flat_asks = rw t.len (t, h)
+
+pub flat_end : {n : ℕ} {ts₀ ts : List ℕ} {v : ℕ} → FlatTo n ts₀ ts v → n ≤ v → FlatTo n ts₀ ts n
+flat_end f h = record { says = f.says; flat = λ u hu. f.flat u (omega arith) }

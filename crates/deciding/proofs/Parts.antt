@@ -1,6 +1,6 @@
 -- A class's shape by the term of its word, and what follows for its mark and for the parts that are left.
 use Prim.Native.Nat.{ℕ, ◌%◌, ◌<◌, ◌≤◌}
-use mathlib.Core.Bool.{Bool, true, false}
+use mathlib.Core.Bool.{Bool, true, false, true≢false}
 use mathlib.Core.List.{List}
 use mathlib.Core.Logic.{◌⊎◌, inl, inr}
 use mathlib.Core.Path.{◌≡◌, refl, sym, ap, ◌∙◌}
@@ -20,6 +20,15 @@ use Rattle.terms.proofs.TermLaws.{term_known, link_below, class_link, class_know
 use Rattle.deciding.specs.Marking.{word_shape, mark_over, mark_shape, Final, Answered, ClassAt, PartsSmall, PartUnmarked, NextPart}
 use Rattle.deciding.specs.Visit.{VisitNext}
 use Rattle.deciding.proofs.Graphs.{parts_in}
+
+-- ---- answers
+pub answered_yes : (P : Type 0) (b : Bool) → Answered P b → b ≡ true → P
+answered_yes P true a e = a
+answered_yes P false a e = absurd (true≢false (sym e))
+
+pub answered_no : (P : Type 0) (b : Bool) → Answered P b → b ≡ false → P → ⊥
+answered_no P true a e = absurd (true≢false e)
+answered_no P false a e = a
 
 -- ---- a class's shape
 module _ {ts marks : List ℕ} {c : ℕ} (k : ClassAt ts marks c) where

@@ -6,7 +6,7 @@ use mathlib.Core.Path.{◌≡◌, refl, sym, ap, ◌∙◌}
 use lib.ListN.{length}
 use Rattle.rules.specs.Ends.{End, done, refused, ◌>>=◌, least_failing, unless_found, require, require_all}
 use Rattle.rules.specs.Tables.{Table, table_of, node_count, nodes_at}
-use Rattle.rules.specs.Reading.{headed, limited, laid_out, node_good}
+use Rattle.rules.specs.Reading.{headed, limited, laid_out, node_good, reading}
 use Rattle.rules.specs.Readable.{Header}
 use Rattle.laws.proofs.EndLaws.{T_true, require_done, require_all_done}
 use Rattle.laws.proofs.ReadingLaws.{header_right, headed_right, node_good_right}
@@ -15,7 +15,7 @@ use Rattle.std.specs.Option.{unwrap_or}
 use Rattle.rules.proofs.Basics.{absurd01}
 use Rattle.reading.specs.declared.Refusal.{Refusal}
 use Rattle.table.specs.Places.{found_place}
-use Rattle.reading.specs.Answers.{height_of, measured}
+use Rattle.reading.specs.Answers.{reading_records, height_of, measured}
 use Rattle.table.specs.Layout.{Fielded}
 
 -- What a search has found, as the refusal of a stage.
@@ -64,3 +64,7 @@ module _ (bs : List ℕ) (headed_passes : headed bs ≡ true) where
     header_read =
         (header_right bs).0
         ((T_true (headed bs)).1 headed_passes, (T_true (limited bs)).1 limited_passes, (T_true (laid_out bs)).1 laid_out_passes)
+
+    pub records_left : reading_records bs ≡ reading bs
+    unfolding reading reading_records
+    records_left = rw (headed_passes, limited_passes, laid_out_passes)
