@@ -79,7 +79,9 @@ pub fn is_light(kind: usize) -> bool
     matches!(kind, 37 | 39 | 40)
 }
 
-// These kinds, for the operands at a and b. That the first one is a function may be known.
+// These kinds, for the operands at a and b. That the first one is a function may be known. Inlined into both callers: a call of its own,
+// with its answer in memory, took integer loops a sixth more instructions.
+#[inline(always)]
 pub fn light(s: &[u64], kind: usize, a: usize, b: usize, known: bool) -> Result<Outcome, Lack>
     requires { SomeOperands s.now a b × KnownFunction s.now a known × IsLight kind }
     ensures { LightOf kind s.now a b result }

@@ -1,8 +1,8 @@
 // The parts of the pairs of a set in the arena: domain and range.
 #![tactic(auto)]
 
-ghost use Rattle.std.specs.Prelude.{ℕ, ◌≡◌, ◌+◌, ◌<◌, ◌≤◌, length};
-ghost use Rattle.arena.specs.Code.{SomeRelation};
+ghost use Rattle.std.specs.Prelude.{ℕ, ◌≡◌, ◌+◌, ◌-◌, ◌<◌, ◌≤◌, length};
+ghost use Rattle.arena.specs.Code.{SomeRelation, Copied};
 ghost use Rattle.parts.specs.Parts.{PartsPre, TakesParts, Domains, Ranges, FindPre, Finds, InsertPre, FindsPlace, Inserts, MovedLast};
 
 use std::cmp::Ordering;
@@ -47,6 +47,16 @@ fn place_for(s: &[u64], p: usize, end: usize, from: usize, o: Out) -> Result<usi
     find(s, p, end, from, o.to)
 }
 
+// Moves the members from `at` to `to` up by n cells. Parts often come in rising order, and then there are none.
+fn move_up(s: &mut [u64], at: usize, to: usize, n: usize)
+    requires { (at ≤ to) × (to + n ≤ length s.old) }
+    ensures { Copied s.old at (to - at) (at + n) s.new }
+{
+    if at < to {
+        arena::copy(s, at, to - at, at + n);
+    }
+}
+
 // Where the last member stands after one of n cells has been put at `at` among members that ended at `to`.
 fn moved_last(at: usize, to: usize, last: Option<usize>, n: usize) -> usize
     requires { (k : ℕ) → last ≡ Some k → k + n < 18446744073709551616 }
@@ -67,8 +77,8 @@ fn insert(s: &mut [u64], p: usize, end: usize, from: usize, o: Out) -> Out
         Ok(_) => o,
         Err(at) => {
             let n = end - p;
-            arena::copy(s, at, o.to - at, at + n);
-            arena::copy(s, p, n, at);
+            move_up(s, at, o.to, n);
+            arena::copy_forward(s, p, n, at);
             Out {
                 last: Some(moved_last(at, o.to, o.last, n)),
                 to: o.to + n,
@@ -90,7 +100,8 @@ fn parts(s: &mut [u64], a: usize, top: usize, second: bool) -> usize
         to: from,
         count: 0,
     };
-    for _ in 0..arena::low(s[a]) {
+    // The pairs that are left are counted down, as in `products::row`: domains take a twelfth fewer instructions so.
+    for _ in (0..arena::low(s[a])).rev() {
         let x = i + 1;
         let y = arena::end_of(s, x);
         let e = arena::end_of(s, y);

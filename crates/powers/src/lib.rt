@@ -52,7 +52,8 @@ fn subset_count(n: usize) -> usize
     1 << n.min(6)
 }
 
-// The subsets of members for the masks below p.
+// The subsets of members for the masks below p. Not inlined into the evaluators, where its values would lie on the stack.
+#[inline(never)]
 fn all_subsets(s: &mut [u64], at: &[usize], p: usize, to: usize) -> usize
     requires { AllPre s.old at.now p to }
     ensures { AllSubsets s.old at.now p to s.new result }

@@ -27,7 +27,7 @@ pub fn singleton(s: &mut [u64], a: usize, top: usize) -> Option<usize>
     if n > BEHIND_FIRST {
         return None;
     }
-    arena::copy(s, a, n, top + 1);
+    arena::copy_forward(s, a, n, top + 1);
     s[top] = arena::SET + 1;
     Some(top + 1 + n)
 }
@@ -37,8 +37,8 @@ fn pair_at(s: &mut [u64], a: usize, n: usize, b: usize, m: usize, to: usize) -> 
     requires { PairPre s.old a n b m to }
     ensures { PairPut s.old a n b m to s.new result }
 {
-    arena::copy(s, a, n, to + 1);
-    arena::copy(s, b, m, to + 1 + n);
+    arena::copy_forward(s, a, n, to + 1);
+    arena::copy_forward(s, b, m, to + 1 + n);
     s[to] = arena::PAIR;
     to + 1 + n + m
 }
@@ -102,7 +102,8 @@ fn row(s: &mut [u64], v: usize, k: usize, b: usize, m: usize, to: usize) -> usiz
 {
     let mut i = b;
     let mut at = to;
-    for _ in 0..m {
+    // What is left is counted down, which takes no register for the end.
+    for _ in (0..m).rev() {
         let e = arena::end_of(s, i);
         at = pair_at(s, v, k, i, e - i, at);
         i = e;
@@ -110,7 +111,8 @@ fn row(s: &mut [u64], v: usize, k: usize, b: usize, m: usize, to: usize) -> usiz
     at
 }
 
-// The pairs of n members from a on with m members from b on.
+// The pairs of n members from a on with m members from b on. Not inlined into the evaluators, where its values would lie on the stack.
+#[inline(never)]
 fn rows(s: &mut [u64], a: usize, n: usize, b: usize, m: usize, to: usize) -> usize
     requires { SquarePre s.old a n b m to }
     ensures { Squares s.old a n b m to s.new result }

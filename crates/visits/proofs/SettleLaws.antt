@@ -1,6 +1,6 @@
 -- What a node gives is settled at its top.
 use Rattle.arena.proofs.MadeLaws.{made_ends}
-use Rattle.visits.proofs.Terms.{ℕ, ◌+◌, ◌-◌, ◌≤◌, List, [], ◌∷◌, ◌≡◌, refl, sym, ap, ◌∙◌, arith, length, Copied, WithinAt, GivenCell}
+use Rattle.visits.proofs.Terms.{ℕ, ◌+◌, ◌-◌, ◌≤◌, List, [], ◌∷◌, ◌⊎◌, inr, ◌≡◌, refl, sym, ap, ◌∙◌, arith, length, Copied, WithinAt, GivenCell}
 use Rattle.visits.proofs.Terms.{subst, ValueAt, Value, weight, Given, code, Same, length_code, same_refl, copied_stands, Outcome, BuiltAt, GivesNumbered, Formed, Placed, Stopped, SettleReady, Settles, Built, Within, Cell, Result, Ok, Err, PutsCell}
 
 -- Copying changes nothing below its place.
@@ -61,10 +61,10 @@ module _ {s : List ℕ} {r : Result Outcome ℕ} {mid next top : ℕ} (p : Settl
               record { value = x.value; is = x.is; stands = y; below = omega (arith, x.ends); same = refl };
         }
 
-    pub settle_room : (next + (end - next) ≤ length s) × (top + (end - next) ≤ length s)
+    pub settle_room : (next + (end - next) ≤ length s) × (top + (end - next) ≤ length s) × ((next + (end - next) ≤ top) ⊎ (top ≤ next))
     settle_room =
         let b = built_as p.given p.gives in
-        (omega (arith, b.ends, b.light, p.room), omega (arith, b.ends, b.light, p.low, p.order, p.room))
+        (omega (arith, b.ends, b.light, p.room), omega (arith, b.ends, b.light, p.low, p.order, p.room), inr (omega (arith, p.low, p.order)))
 
     pub settles_built : {node left : ℕ} {s' : List ℕ} → Copied s next (end - next) top s' →
         Settles s r mid next top node left s' (Placed top (top + (end - next)) left)

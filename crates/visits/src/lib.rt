@@ -240,7 +240,7 @@ pub fn settle(
                 return Formed::Value { at: top, end, left };
             }
             let n = end - next;
-            arena::copy(s, next, n, top);
+            arena::copy_forward(s, next, n, top);
             Formed::Value {
                 at: top,
                 end: top + n,

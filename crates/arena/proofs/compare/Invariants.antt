@@ -1,4 +1,4 @@
--- `compare`: nothing has decided so far; cells that differ decide, a set with members leaves all to `compare_values`, and other cells that agree
+-- `compare`: nothing has decided so far; cells that differ decide, a set with members leaves all to `compare_whole`, and other cells that agree
 -- are passed.
 use Rattle.rules.specs.Values.{Value}
 use Rattle.arena.specs.Code.{ValueAt, CellsFit}

@@ -3,4 +3,4 @@ use Rattle.products.proofs.GrowLaws.{pair_put}
 use Rattle.products.proofs.pair_at.Goals as goal
 
 pub returns : goal.returns
-returns c = pair_put c.requires c.copy.ensures c.copy-2.ensures
+returns c = pair_put c.requires c.copy_forward.ensures c.copy_forward-2.ensures
