@@ -1,5 +1,5 @@
 -- What Check takes for granted: a table that was read, fresh work arrays that have room for it, and arrays that keep their lengths.
-use Prim.Native.Nat.{ℕ, ◌≤◌}
+use Prim.Native.Nat.{ℕ, ◌+◌, ◌*◌, ◌≤◌, ◌<◌}
 use mathlib.Core.List.{List}
 use mathlib.Core.Path.{◌≡◌}
 use native.Mathlib.Omega.{arith}
@@ -35,20 +35,29 @@ ready c r a b d q = record {
   held = q;
 }
 
--- Fresh arrays whose sizes fit n nodes.
-pub fresh_nodes : {n v e b k : ℕ} → SizesFit n v e b k → NodeRoom n (replicate v 0) (replicate e 0) (replicate b 0)
-fresh_nodes {n} {v} {e} {b} h = record {
-  shapes_room = omega (arith, h.variables_fit, length-replicate {A = ℕ} v 0);
-  equations_room = omega (arith, h.equations_fit, length-replicate {A = ℕ} e 0);
-  starts_room = omega (arith, h.starts_fit, length-replicate {A = ℕ} b 0);
+-- Fresh arrays for up to k nodes.
+pub fresh_nodes : (n k a b c : ℕ) → n ≤ k → 32 + 6 * k ≤ a → 2 * k ≤ b → k < c → NodeRoom n (replicate a 0) (replicate b 0) (replicate c 0)
+fresh_nodes n k a b c few ha hb hc = record {
+  shapes_room = omega (arith, length-replicate {A = ℕ} a 0);
+  equations_room = omega (arith, length-replicate {A = ℕ} b 0);
+  starts_room = omega (arith, length-replicate {A = ℕ} c 0);
 }
 
-pub fresh_work : {bs : List ℕ} {v e b k : ℕ} → SizesFit (node_count bs) v e b k → WorkRoom bs (replicate v 0) (replicate k 0) (replicate v 0)
-fresh_work {bs} {v} {e} {b} {k} h = record {
-  terms_room = omega (arith, h.variables_fit, length-replicate {A = ℕ} v 0);
-  stack_room = omega (arith, h.stack_fit, length-replicate {A = ℕ} k 0);
-  marks_room = omega (arith, h.variables_fit, length-replicate {A = ℕ} v 0);
+pub fresh_work : (bs : List ℕ) (k a b : ℕ) → node_count bs ≤ k → 32 + 6 * k ≤ a → 34 + 6 * k ≤ b → WorkRoom bs (replicate a 0) (replicate b 0) (replicate a 0)
+fresh_work bs k a b few ha hb = record {
+  terms_room = omega (arith, length-replicate {A = ℕ} a 0);
+  stack_room = omega (arith, length-replicate {A = ℕ} b 0);
+  marks_room = omega (arith, length-replicate {A = ℕ} a 0);
 }
+
+-- The same of arrays whose sizes fit n nodes.
+pub sized_nodes : {n v e b k : ℕ} → SizesFit n v e b k → NodeRoom n (replicate v 0) (replicate e 0) (replicate b 0)
+sized_nodes {n} {v} {e} {b} h =
+    fresh_nodes n n v e b (omega arith) (omega (arith, h.variables_fit)) (omega (arith, h.equations_fit)) (omega (arith, h.starts_fit))
+
+pub sized_work : {bs : List ℕ} {v e b k : ℕ} → SizesFit (node_count bs) v e b k → WorkRoom bs (replicate v 0) (replicate k 0) (replicate v 0)
+sized_work {bs} {v} {e} {b} {k} h =
+    fresh_work bs (node_count bs) v k (omega arith) (omega (arith, h.variables_fit)) (omega (arith, h.stack_fit))
 
 -- The sizes of the three kinds of tables.
 pub fits_small : {n : ℕ} → n ≤ 64 → SizesFit n 416 128 65 418

@@ -6,10 +6,12 @@ use mathlib.Core.Logic.{◌⊎◌, inl, inr}
 use mathlib.Core.Path.{◌≡◌, sym, ap, subst, ◌∙◌}
 use native.Mathlib.Decide.{dec_lt}
 use native.Mathlib.Omega.{arith}
-use lib.ListN.{length, take}
+use lib.ListN.{get_or, length, take}
+use lib.Seq.{get_or-take, length-take-le}
 use Rattle.rules.specs.Types.{INTEGER}
 use Rattle.rules.specs.Tables.{Table}
 use Rattle.typing.proofs.Verdicts.{typing_none}
+use Rattle.unification.proofs.Loops.{fill_to, fill_end}
 use Rattle.std.specs.Prelude.{Result, Err}
 use Rattle.terms.specs.Terms.{Terms, HoldsTo, SaysAlso}
 use Rattle.terms.specs.Decided.{Decision}
@@ -19,6 +21,12 @@ use Rattle.classes.specs.declared.Clash.TheVariants.{Here, Inside}
 use Rattle.classes.specs.Merging.{MergedAll, Mergeable}
 use Rattle.checker.specs.Solving.{PartRoom, WorkRoom, Typable, Untypable, TypableIs, Satisfiable}
 use Rattle.checker.specs.Solving.{Between, FirstClash, count_at, EquationBelow, EquationAt, NodesTo}
+
+pub copied : (shapes terms terms' : List ℕ) {i : ℕ} → terms' ≡ fill_to (λ x. get_or shapes x 0) i terms → i ≤ length terms → length terms ≤ i →
+    length terms ≤ length shapes → terms' ≡ take (length terms) shapes
+copied shapes terms terms' {i} e h k l =
+    fill_end (λ x. get_or shapes x 0) i terms terms' (take (length terms) shapes) e h k (length-take-le (length terms) shapes l)
+    (λ v g. get_or-take (length terms) shapes v 0 g)
 
 -- ---- merging the copied shapes
 module _ {n : ℕ} {shapes eqns stack ts : List ℕ} (p : PartRoom n shapes eqns stack) (e : ts ≡ take n shapes) where

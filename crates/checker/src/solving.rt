@@ -36,7 +36,17 @@ enum Unsolved {
     UpTo(usize),
 }
 
-// The slices that this one, `satisfiable` and `solve_shapes` take are no Problem and Work: they are the parts of those below a node.
+// The slices that `merge_shapes`, `satisfiable` and `solve_shapes` take are no Problem and Work: they are the parts of those below a node.
+
+// The first terms are the shapes. By hand: std's `copy_from_slice` calls memmove, and the archive for C is to need no name from outside but memset.
+fn copy(shapes: &[u32], terms: &mut [u32])
+    requires { length terms.old ≤ length shapes.now }
+    ensures { terms.new ≡ take (length terms.old) shapes.now }
+{
+    for i in 0..terms.len() {
+        terms[i] = shapes[i];
+    }
+}
 
 // The terms of the shapes with the equations, as far as these go without a clash.
 fn merge_shapes(
@@ -48,8 +58,7 @@ fn merge_shapes(
     requires { PartRoom (length terms.old) shapes.now equations.now stack.old }
     ensures { MergedAll (length terms.old) (take (length terms.old) shapes.now) equations.now result terms.new }
 {
-    let n = terms.len();
-    terms.copy_from_slice(&shapes[..n]);
+    copy(shapes, terms);
     classes::merge_all(terms, stack, equations)
 }
 

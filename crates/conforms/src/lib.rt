@@ -93,10 +93,12 @@ fn conforms_in(table: &[u8], sheet: &[u8], values: &[u8], s: &mut [u64]) -> bool
     requires { LoadReady table.now values.now s.old 0 }
     ensures { result ≡ conforming table.now sheet.now values.now }
 {
+    // The places alone: to move the whole environment is a call of memcpy, and the archive for C is to need no name from outside but memset.
     let Ok(loaded) = buffer::load(table, values, s, 0) else {
         return false;
     };
-    loaded_conform(table, s, &loaded.at, sheet)
+    let at = loaded.at;
+    loaded_conform(table, s, &at, sheet)
 }
 
 // Few values, and the value of those that have none.

@@ -1,20 +1,20 @@
 -- Fresh arrays have room for the table; the constraints are built, then solved.
 use native.Mathlib.Omega.{arith}
-use Rattle.checker.proofs.RoomLaws.{was_read, fielded, ready, fresh_nodes, fresh_work}
+use Rattle.checker.proofs.RoomLaws.{was_read, fielded, ready, sized_nodes, sized_work}
 use Rattle.checker.proofs.check_sized.Goals as goal
 
 pub nodes_offset-at-requires : goal.nodes_offset-at-requires
 nodes_offset-at-requires g c = (was_read c.requires.checkable).header.long
 
 pub build-requires : goal.build-requires
-build-requires g c = (fielded c.requires.checkable c.nodes_offset-at.ensures, fresh_nodes c.requires.sizes)
+build-requires g c = (fielded c.requires.checkable c.nodes_offset-at.ensures, sized_nodes c.requires.sizes)
 
 pub solve_types-requires-clause-ready : goal.solve_types-requires-clause-ready
 solve_types-requires-clause-ready g c =
-    ready c.requires.checkable (fresh_nodes c.requires.sizes) c.build.auto.shapes c.build.auto.equations c.build.auto.starts c.build.ensures
+    ready c.requires.checkable (sized_nodes c.requires.sizes) c.build.auto.shapes c.build.auto.equations c.build.auto.starts c.build.ensures
 
 pub solve_types-requires-clause-work_room : goal.solve_types-requires-clause-work_room
-solve_types-requires-clause-work_room g c = fresh_work c.requires.sizes
+solve_types-requires-clause-work_room g c = sized_work c.requires.sizes
 
 pub whole_as_slice-build : goal.whole_as_slice-build
 whole_as_slice-build g c = omega (arith, c.requires.sizes.few_variables)
