@@ -182,6 +182,6 @@ fn main(rt: HostRuntime) -> io::Result<()> {
     match all_cases(&mut input, &mut out, &mut rooms) {
         Ok(()) => Ok(()),
         Err(Stop::Failed(error)) => Err(error),
-        Err(stop) => writeln!(out, "{stop}"),
+        Err(stop) => out.write_all(stop.line()),
     }
 }

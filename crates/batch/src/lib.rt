@@ -4,7 +4,7 @@
 ghost use Rattle.std.specs.Prelude.{◌≤◌, ◌≡◌, length, drop};
 ghost use Rattle.std.specs.Io.{ReadsAtMost};
 ghost use Rattle.batch.specs.declared.Stop.TheVariants.{Failed};
-ghost use Rattle.batch.specs.Stops.{stop_text};
+ghost use Rattle.batch.specs.Stops.{stop_text, stop_line};
 
 use std::io::{Read, Write};
 use std::{fmt, io};
@@ -38,6 +38,20 @@ impl fmt::Display for Stop {
             Stop::Long => write!(f, "long"),
             Stop::Unknown => write!(f, "unknown"),
             Stop::Failed(error) => write!(f, "{error}"),
+        }
+    }
+}
+
+impl Stop {
+    // The last line of a batch that ends by it; none where a read or write has failed. It stands here whole, so that it goes out by one write.
+    pub fn line(&self) -> &'static [u8]
+        ensures { result.now ≡ stop_line self.now }
+    {
+        match self {
+            Stop::Cut => b"cut\n",
+            Stop::Long => b"long\n",
+            Stop::Unknown => b"unknown\n",
+            Stop::Failed(_) => b"",
         }
     }
 }
