@@ -47,11 +47,12 @@ fn list(table: &[u8], sheet: &mut [u8], out: &mut [u8]) -> usize
 // No table has more than 8,416 bytes, so the length of a longer input is wrong however much of it is read. No Vec: room that is there from the
 // start cannot run out.
 fn main(rt: HostRuntime) -> io::Result<()> {
+    // First: where it stands behind the read, it is cleared twice.
+    let mut out = [0u8; 131072];
     let mut stdin = rt.stdin();
     let mut input = [0u8; 65536];
     let n = batch::next_bytes(&mut stdin, &mut input, 65536)?;
     let mut sheet = [0u8; 65536];
-    let mut out = [0u8; 131072];
     let length = list(&input[..n], &mut sheet, &mut out);
     rt.stdout().write_all(&out[..length])
 }
